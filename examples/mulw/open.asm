@@ -1,0 +1,2 @@
+A        MULW  R1
+         RET
