@@ -1,0 +1,16 @@
+pub mod Choice
+pub mod Limits
+pub mod Lexemes
+pub mod Fields
+pub mod Statement
+pub mod Values
+pub mod Grammar
+pub mod Form
+pub mod Evaluate
+pub mod Calls
+pub mod Decide
+pub mod Machine
+pub mod Library
+pub mod ByLines
+pub mod Faults
+pub mod Meaning
