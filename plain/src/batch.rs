@@ -3,6 +3,8 @@
 use crate::{expand, translate};
 use std::io::{self, BufRead, Read, Write};
 
+/// One case: a library, a program, and the lengths of the two buffers lent to the expansion.
+#[derive(Clone, Debug, PartialEq, Eq)]
 pub struct Case {
     pub id: String,
     pub library: Vec<u8>,

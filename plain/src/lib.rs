@@ -6,6 +6,7 @@ pub mod calls;
 pub mod definitions;
 pub mod expanding;
 pub mod faults;
+pub mod gen;
 pub mod grammar;
 pub mod lines;
 pub mod refusals;

@@ -38,7 +38,7 @@ cellNamed names globals l shared n =
     let global = placeAmong (firsts (names .globals)) n in
     choose (ltb own (length (ownNames names))) (ownCell (getD (ownKinds names) own unknown) st own)
     (choose (ltb global (length (names .globals))) (sharedCell (symbol (getD (seconds (names .globals)) global setA)) st (placeAmong (firsts globals) n))
-        (systemNamed l st n))
+    (systemNamed l st n))
 
 unfoldable pub headerOf : Names → List Bytes → Header
 headerOf n body = record {

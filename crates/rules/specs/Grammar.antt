@@ -170,16 +170,16 @@ module _ {R : Type 0} where
   module _ {A : Type 0} (goes : List (Lex R) → Bool) (skip : List (Lex R) → List (Lex R)) (operand : List (Lex R) → Got A R)
       (join : List (Lex R) → A → A → Option A)
     where
-    unfoldable pub goesOn : Got A R → Bool
-    goesOn (got v x) = goes x
-    goesOn (refused e left) = false
+      unfoldable pub goesOn : Got A R → Bool
+      goesOn (got v x) = goes x
+      goesOn (refused e left) = false
 
-    unfoldable pub turn : Got A R → Got A R
-    turn (got v x) = then (operand (skip x)) λ w y. given (join x v w) x y
-    turn (refused e left) = refused e left
+      unfoldable pub turn : Got A R → Got A R
+      turn (got v x) = then (operand (skip x)) λ w y. given (join x v w) x y
+      turn (refused e left) = refused e left
 
-    unfoldable pub chain : List (Lex R) → Got A R
-    chain x = while goesOn turn (length x) (operand x)
+      unfoldable pub chain : List (Lex R) → Got A R
+      chain x = while goesOn turn (length x) (operand x)
 
 module _ {R N S B : Type 0} (sense : Sense R N S B) where
   -- `inner` is an arithmetic expression one pair of parentheses further in
@@ -267,8 +267,8 @@ module _ {R N S B : Type 0} (sense : Sense R N S B) where
     unfoldable pub substringed : List (Lex R) → S → List (Lex R) → Got S R
     substringed here s x = choose (eqb (plain x) opening)
         (then (inner (rest x)) λ start y. choose (eqb (plain y) comma)
-            (then (inner (rest y)) λ count z. then (closed count z) λ last w. given (sense .substringOf s start last) here w)
-            (broken y))
+        (then (inner (rest y)) λ count z. then (closed count z) λ last w. given (sense .substringOf s start last) here w)
+        (broken y))
         (got s x)
 
     unfoldable pub string : List (Lex R) → Got S R
@@ -316,8 +316,8 @@ module _ {R N S B : Type 0} (sense : Sense R N S B) where
     comparedNumbers here a x = elim (relationAt (pastSpaces x)) [
       | none ↦ constantAt here x
       | some r ↦
-        let y = pastSpaces (drop 2 (pastSpaces x)) in
-        choose (eqb (plain y) opening) (broken y) (then (arithmetic n y) λ b z. got (sense .numbers r a b) z)
+          let y = pastSpaces (drop 2 (pastSpaces x)) in
+          choose (eqb (plain y) opening) (broken y) (then (arithmetic n y) λ b z. got (sense .numbers r a b) z)
     ]
 
     unfoldable pub isFlag : List (Lex R) → Bool

@@ -153,10 +153,10 @@ enters m k c ls s =
     choose (knowsKeywords (m .header k) c)
     (choose (ltb (length ls) levelLimit)
     (choose (ltb (s .calls) callLimit)
-        (on (record { reached = s .reached; output = s .output; levels = entered (m .header k) k c s ∷ ls; shared = s .shared; calls = suc (s .calls) }))
-        (refuses callsSpent s))
-        (refuses levelSix s))
-        (refuses badCall s)
+    (on (record { reached = s .reached; output = s .output; levels = entered (m .header k) k c s ∷ ls; shared = s .shared; calls = suc (s .calls) }))
+    (refuses callsSpent s))
+    (refuses levelSix s))
+    (refuses badCall s)
 
 unfoldable pub calls : Machine → ℕ → Bytes → Option (Operands Bytes) → List Level → State → Move
 calls m k name none ls s = refuses badCall s

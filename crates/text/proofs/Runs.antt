@@ -8,7 +8,7 @@ use mathlib.Core.Bool.{Bool, true, false, false≢true, _&&_, _||_, Bool·beq, a
 use lib.Dec.{eqb}
 use borrow.Author.Tests.{ne-eqb}
 
-beq-is : (v w : Bool) → Bool·beq v w ≡ true → v ≡ w
+pub beq-is : (v w : Bool) → Bool·beq v w ≡ true → v ≡ w
 beq-is true true e = refl
 beq-is true false e = absurd (false≢true e)
 beq-is false true e = absurd (false≢true e)
