@@ -3,3 +3,4 @@ pub mod Worked
 pub mod Example
 pub mod Choices
 pub mod Lossless
+pub mod Ends
