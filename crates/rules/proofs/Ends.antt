@@ -1,7 +1,7 @@
 -- Every run ends (02, R-6): each move lowers a number, made of the open lines, the calls, and each level's counter and lines that are left.
 use Prim.Native.Nat.{ℕ, zero, suc, pred, _+_, _*_, _-_, _≤_, _<_}
-use mathlib.Core.Path.{_≡_, refl, ap, sym, subst, _∙_}
-use mathlib.Core.Bool.{Bool, true, false, _||_}
+use mathlib.Core.Path.{_≡_, refl, ap, _∙_}
+use mathlib.Core.Bool.{Bool, true, _||_}
 use mathlib.Core.Logic.{_⊎_, inl, inr}
 use mathlib.Core.List.{List, [], _∷_}
 use mathlib.Core.Option.{Option, none, some}
@@ -14,15 +14,15 @@ use borrow.Author.Tests.{ltb-true, ltb-false, leb-true, eqb-false}
 use Rattle.text.specs.Bytes.{Bytes}
 use Rattle.text.specs.Words.{placeAmong}
 use Rattle.rules.specs.Choice.{choose}
-use Rattle.rules.specs.Limits.{lineLimit, nestLimit, counterLimit, callLimit, levelLimit}
+use Rattle.rules.specs.Limits.{lineLimit, counterLimit, callLimit, levelLimit}
 use Rattle.rules.specs.Lexemes.{Lex, byte, mark, ref, lone}
 use Rattle.rules.specs.Fields.{statementFields, isIllWritten, isEmpty}
 use Rattle.rules.specs.Statement.{Set, setA, setB, setC, Line, Does, passes, exits, text, models, sets, branchesIf, branches, counts}
-use Rattle.rules.specs.Grammar.{Got, got, refused, whole, arithmetic, stringWithin, condition}
-use Rattle.rules.specs.Evaluate.{Value, Cell, values}
-use Rattle.rules.specs.Calls.{Operands, laidOut, trimmed}
-use Rattle.rules.specs.Decide.{Act, next, leave, jump, renew, keep, use′, state, refuse, whenGot, renewed, unless, valueOf, assigned, replaced, modelled, decideBy, decide}
-use Rattle.rules.specs.Machine.{Header, Level, Machine, Call, knowsKeywords, Reached, Output, State, Answer, Move, on, stop, refuses, withLevels, puts, entered, enters, calls, isTitle, isLanguageWord, callName, writtenOperands, uses, states, advanced, jumped, renewedTo, keeping, withShared, acts, reaching, stepped, opened, openMove, actAt, move, runs, begun, longestIn, enough}
+use Rattle.rules.specs.Grammar.{Got, got, refused}
+use Rattle.rules.specs.Evaluate.{Value, Cell}
+use Rattle.rules.specs.Calls.{Operands}
+use Rattle.rules.specs.Decide.{Act, next, leave, jump, renew, keep, use′, state, refuse, whenGot, renewed, unless, valueOf, assigned, modelled, decideBy, decide}
+use Rattle.rules.specs.Machine.{Header, Level, Machine, Call, knowsKeywords, State, Answer, Move, on, stop, refuses, withLevels, puts, entered, enters, calls, isTitle, isLanguageWord, uses, states, advanced, jumped, renewedTo, keeping, withShared, acts, reaching, stepped, opened, openMove, actAt, move, runs, begun, longestIn, enough}
 use Rattle.rules.proofs.Choices.{by, either}
 
 -- ---- what is to be proved
@@ -46,7 +46,8 @@ pub record Steady (m : Machine) : Type 0 where
   pub behind : (k i j t : ℕ) (l l′ : Level) (vs vs′ : List Value) → i < m .header k .lines → j < m .header k .lines
       → m .line k i l vs .does ≡ counts → (m .line k j l′ vs′ .does ≡ branches t) ⊎ (m .line k j l′ vs′ .does ≡ branchesIf t) → i < t
 
--- every macro has a last line, and that is MEND
+-- Every macro has a last line, and that is MEND. A macro without it ends by a further move, that finds no line, and 02's bound has none for that
+-- (`ends-unclosed`). The lines of a library are so (proofs/Closed.antt).
 pub record Closed (m : Machine) : Type 0 where
   pub some-line : (k : ℕ) → k < length (m .titles) → 0 < m .header k .lines
   pub last : (k i : ℕ) (l : Level) (vs : List Value) → k < length (m .titles) → suc i ≡ m .header k .lines → m .line k i l vs .does ≡ Does.ends
@@ -242,8 +243,8 @@ module _ (m : Machine) (more : ℕ) where
       record { known = s .known; fresh = λ j l′ vs′ b e. inl (omega (arith, st .once k j i l′ l vs′ vs b h e d)) }
 
   -- at its ACTR a level's counter is as it was at the call
-  unspent : (k i n c : ℕ) (l : Level) (vs : List Value) → i < m .header k .lines → m .line k i l vs .does ≡ counts → Sound m k i c → c ≡ counterLimit
-  unspent k i n c l vs h d s = go (s .fresh i l vs h d)
+  unspent : (k i c : ℕ) (l : Level) (vs : List Value) → i < m .header k .lines → m .line k i l vs .does ≡ counts → Sound m k i c → c ≡ counterLimit
+  unspent k i c l vs h d s = go (s .fresh i l vs h d)
     where
       go : (i < i) ⊎ (c ≡ counterLimit) → c ≡ counterLimit
       go (inl b) = absurd (omega arith)
@@ -273,7 +274,7 @@ module _ (m : Machine) (more : ℕ) where
         (jump-sound (l .macro) (l .line) t (l .counter) l vs st h d (g .0), g .1),
       ))
   acts-lowers st r (renew n) l vs ls s h e d g =
-      let full = unspent (l .macro) (l .line) n (l .counter) l vs h (d .0) (g .0) in (
+      let full = unspent (l .macro) (l .line) (l .counter) l vs h (d .0) (g .0) in (
         lower (s .reached .lines) (s .calls) ls (renew-lower (l .macro) (l .line) n (l .counter) h e (omega (arith, full, d .1))),
         (renew-sound (l .macro) (l .line) n (l .counter) l vs st h (d .0) (g .0), g .1),
       )

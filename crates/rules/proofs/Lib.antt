@@ -4,3 +4,4 @@ pub mod Example
 pub mod Choices
 pub mod Lossless
 pub mod Ends
+pub mod Closed
