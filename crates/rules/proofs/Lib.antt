@@ -1,3 +1,5 @@
 pub mod Computing
 pub mod Worked
 pub mod Example
+pub mod InKind
+pub mod Alike
