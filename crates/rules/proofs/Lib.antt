@@ -3,3 +3,4 @@ pub mod Worked
 pub mod Example
 pub mod InKind
 pub mod Alike
+pub mod AlikeRules
