@@ -43,6 +43,16 @@ module _ {R : Type 0} {kind : R → Kind} where
       at true = h
       at false = h′
 
+  pub alike-option : {A C D : Type 0} {Fit : A → C → Type 0} {f : Got A R} {g : Got C Kind} {k : D → Got A R} {m : D → Got C Kind} (o : Option D) {p : Option D} → o ≡ p
+    → Alike R A C kind Fit f g → ((d : D) → Alike R A C kind Fit (k d) (m d))
+    → Alike R A C kind Fit (elim o [ none ↦ f | some d ↦ k d ]) (elim p [ none ↦ g | some d ↦ m d ])
+  alike-option {A} {C} {D} {Fit} {f} {g} {k} {m} o e h hs =
+      subst (λ p. Alike R A C kind Fit (elim o [ none ↦ f | some d ↦ k d ]) (elim p [ none ↦ g | some d ↦ m d ])) e (at o)
+    where
+      at : (o : Option D) → Alike R A C kind Fit (elim o [ none ↦ f | some d ↦ k d ]) (elim o [ none ↦ g | some d ↦ m d ])
+      at none = h
+      at (some d) = hs d
+
   pub alike-then : {A C A′ C′ : Type 0} {Fit : A → C → Type 0} {Fit′ : A′ → C′ → Type 0} {f : Got A R} {g : Got C Kind} {k : A → List (Lex R) → Got A′ R}
     {m : C → List (Lex Kind) → Got C′ Kind} → Alike R A C kind Fit f g
     → ((v : A) (w : C) (x : List (Lex R)) (y : List (Lex Kind)) → Fit v w → InKind R kind x y → Alike R A′ C′ kind Fit′ (k v x) (m w y))

@@ -17,8 +17,8 @@ use Rattle.rules.specs.Values.{Relation, spelt}
 use Rattle.rules.specs.Grammar
 use Rattle.rules.specs.Grammar.{Kind, parameter, symbol, syslist, sysndx, sysect, unknown, Reference, Got, got, refused, Sense, plain, rest, isAttribute, pastSpaces, wordAt, isWord, relationAt, then, broken, given, closed, chain}
 use Rattle.rules.specs.Form.{Nothing, form}
-use Rattle.rules.proofs.InKind.{InKind, done, more, same-plain, same-length, same-emptiness, after-drop, after-rest, same-first, after-run, same-attribute, after-spaces, same-word, same-relation}
-use Rattle.rules.proofs.Alike.{Alike, both, value, neither, Any, Rule, alike-broken, alike-choose, alike-then, alike-given, alike-closed, alike-while, alike-chain}
+use Rattle.rules.proofs.InKind.{InKind, done, more, same-plain, same-length, same-emptiness, after-drop, after-rest, after-choose, same-first, after-run, same-attribute, after-spaces, same-word, same-relation}
+use Rattle.rules.proofs.Alike.{Alike, both, value, neither, Any, Rule, alike-broken, alike-choose, alike-option, alike-then, alike-given, alike-closed, alike-while, alike-chain}
 
 -- two references of one kind, both with subscripts or both without
 pub record Alike-references (R N : Type 0) (kind : R → Kind) (r : Reference R N) (s : Reference Kind Nothing) : Type 0 where
@@ -78,3 +78,137 @@ module _ {R N S B : Type 0} (sense : Sense R N S B) where
     pub alike-sum : Rule (sense .kind) (Grammar.sum sense inner) (Grammar.sum form inner′)
     unfolding Grammar.sum form
     alike-sum = alike-chain _ (λ x y h. ap (λ c. member c (bytes "+-")) (same-plain h)) (λ x y. after-rest) alike-product
+
+    alike-piece : Rule (sense .kind) (Grammar.piece sense inner) (Grammar.piece form inner′)
+    unfolding Grammar.piece mapLex form
+    alike-piece x y done = alike-broken done
+    alike-piece x y (more {a = byte c} h) = both tt h
+    alike-piece x y (more {a = mark} h) = both tt h
+    alike-piece x y (more {a = ref r} h) = alike-then (alike-referred Grammar.inText (sense .textOf) (more h) (more h)) λ s t x y fit h.
+        both tt (after-choose _ (first-is period h) (after-rest h) h)
+    alike-piece x y (more {a = lone} h) = alike-broken (more h)
+
+    alike-add : (s : S) (t : Nothing) {x : List (Lex R)} {y : List (Lex Kind)} → InKind R (sense .kind) x y
+      → Alike R S Nothing (sense .kind) Any (Grammar.addPiece sense inner (got s x)) (Grammar.addPiece form inner′ (got t y))
+    unfolding Grammar.addPiece form
+    alike-add s t h = alike-then (alike-piece _ _ h) λ v w x y fit h. both tt h
+
+    pub alike-text : Rule (sense .kind) (Grammar.text sense inner) (Grammar.text form inner′)
+    unfolding Grammar.text Grammar.goesOnText form
+    alike-text x y h = rw (same-length h) (alike-while _ _ _ _ (λ e left. refl) (λ e left. refl) (λ v w x y h. ap not (same-emptiness h)) (λ v w x y fit. alike-add v w) (length y) (both tt h))
+
+    same-doubled : {x : List (Lex R)} {y : List (Lex Kind)} → InKind R (sense .kind) x y → Grammar.isDoubled sense inner x ≡ Grammar.isDoubled form inner′ y
+    unfolding Grammar.isDoubled
+    same-doubled h = λ i. eqb (same-plain h i) apostrophe && eqb (same-plain (after-rest h) i) apostrophe
+
+    alike-quoted : Rule (sense .kind) (Grammar.quotedText sense inner) (Grammar.quotedText form inner′)
+    unfolding Grammar.quotedText Grammar.goesOnQuoted Grammar.addQuoted form
+    alike-quoted x y h = rw (same-length h) (alike-then
+        (alike-while _ _ _ _ (λ e left. refl) (λ e left. refl)
+        (λ v w x y h i. same-doubled h i || not (same-emptiness h i || eqb (same-plain h i) apostrophe))
+        (λ v w x y fit h. alike-choose _ (same-doubled h) (both tt (after-drop 2 h)) (alike-add v w h)) (length y) (both tt h))
+        λ s t x y fit h. alike-choose _ (first-is apostrophe h) (both tt (after-rest h)) (alike-broken h))
+
+    alike-substringed : (here : List (Lex R)) (here′ : List (Lex Kind)) (s : S) (t : Nothing) {x : List (Lex R)} {y : List (Lex Kind)} → InKind R (sense .kind) x y
+      → Alike R S Nothing (sense .kind) Any (Grammar.substringed sense inner here s x) (Grammar.substringed form inner′ here′ t y)
+    unfolding Grammar.substringed form
+    alike-substringed here here′ s t h = alike-choose _ (first-is opening h)
+        (alike-then (inners _ _ (after-rest h)) λ start w x y fit h. alike-choose _ (first-is comma h)
+        (alike-then (inners _ _ (after-rest h)) λ count m x y fit h. alike-then (alike-closed {Fit = Any} count m tt h) λ last m x y fit h. alike-given (sense .substringOf s start last) _ _ h)
+        (alike-broken h))
+        (both tt h)
+
+    alike-string : Rule (sense .kind) (Grammar.string sense inner) (Grammar.string form inner′)
+    unfolding Grammar.string form
+    alike-string x y h = alike-choose _ (first-is apostrophe h) (alike-then (alike-quoted _ _ (after-rest h)) λ s t x y fit h. alike-substringed _ _ s t h) (alike-broken h)
+
+    pub alike-characters : Rule (sense .kind) (Grammar.characters sense inner) (Grammar.characters form inner′)
+    unfolding Grammar.characters form
+    alike-characters x y h = alike-choose _ (same-attribute 84 h) (alike-referred Grammar.afterT (sense .typeIn) h (after-drop 2 h))
+        (alike-then (alike-chain _ (λ x y. first-is period) (λ x y. after-rest) alike-string _ _ h) λ s t x y fit h. both tt h)
+
+  alike-deeper : (n : ℕ) → Rule (sense .kind) (Grammar.deeper sense n) (Grammar.deeper form n)
+  unfolding Grammar.deeper
+  alike-deeper zero x y h = rw (same-length h) neither
+  alike-deeper (suc n) x y h = alike-sum (alike-deeper n) x y h
+
+  pub alike-arithmetic : (n : ℕ) → Rule (sense .kind) (Grammar.arithmetic sense n) (Grammar.arithmetic form n)
+  unfolding Grammar.arithmetic
+  alike-arithmetic n = alike-sum (alike-deeper n)
+
+  pub alike-text-within : (n : ℕ) → Rule (sense .kind) (Grammar.textWithin sense n) (Grammar.textWithin form n)
+  unfolding Grammar.textWithin
+  alike-text-within n = alike-text (alike-deeper n)
+
+  pub alike-string-within : (n : ℕ) → Rule (sense .kind) (Grammar.stringWithin sense n) (Grammar.stringWithin form n)
+  unfolding Grammar.stringWithin
+  alike-string-within n = alike-characters (alike-deeper n)
+
+  module _ (n : ℕ) {inner : List (Lex R) → Got B R} {inner′ : List (Lex Kind) → Got Nothing Kind} (inners : Rule (sense .kind) inner inner′) where
+    alike-strings : (s : S) (t : Nothing) {x : List (Lex R)} {y : List (Lex Kind)} → InKind R (sense .kind) x y
+      → Alike R B Nothing (sense .kind) Any (Grammar.comparedStrings sense n inner s x) (Grammar.comparedStrings form n inner′ t y)
+    unfolding Grammar.comparedStrings form
+    alike-strings s t h = alike-option _ (same-relation h) (alike-broken h)
+        λ r. alike-then (alike-string-within n _ _ (after-spaces (after-drop 2 h))) λ s t x y fit h. both tt h
+
+    same-digit-alone : (c : ℕ) {here x : List (Lex R)} {here′ y : List (Lex Kind)} → InKind R (sense .kind) here here′ → InKind R (sense .kind) x y
+      → Grammar.isDigitAlone sense n inner c here x ≡ Grammar.isDigitAlone form n inner′ c here′ y
+    unfolding Grammar.isDigitAlone
+    same-digit-alone c g h = λ i. eqb (same-plain g i) c && eqb (same-length g i) (suc (same-length h i))
+
+    alike-constant : {here x : List (Lex R)} {here′ y : List (Lex Kind)} → InKind R (sense .kind) here here′ → InKind R (sense .kind) x y
+      → Alike R B Nothing (sense .kind) Any (Grammar.constantAt sense n inner here x) (Grammar.constantAt form n inner′ here′ y)
+    unfolding Grammar.constantAt form
+    alike-constant g h = alike-choose _ (same-digit-alone 48 g h) (both tt h) (alike-choose _ (same-digit-alone 49 g h) (both tt h) (alike-broken g))
+
+    alike-numbers : {here : List (Lex R)} {here′ : List (Lex Kind)} (a : N) (b : Nothing) {x : List (Lex R)} {y : List (Lex Kind)} → InKind R (sense .kind) here here′
+      → InKind R (sense .kind) x y
+      → Alike R B Nothing (sense .kind) Any (Grammar.comparedNumbers sense n inner here a x) (Grammar.comparedNumbers form n inner′ here′ b y)
+    unfolding Grammar.comparedNumbers form
+    alike-numbers a b g h = alike-option _ (same-relation (after-spaces h)) (alike-constant g h)
+        λ r. alike-choose _ (first-is opening (behind h)) (alike-broken (behind h)) (alike-then (alike-arithmetic n _ _ (behind h)) λ v w x y fit h. both tt h)
+      where
+        behind : {x : List (Lex R)} {y : List (Lex Kind)} → InKind R (sense .kind) x y
+          → InKind R (sense .kind) (pastSpaces (drop 2 (pastSpaces x))) (pastSpaces (drop 2 (pastSpaces y)))
+        behind h = after-spaces (after-drop 2 (after-spaces h))
+
+    same-flag : {x : List (Lex R)} {y : List (Lex Kind)} → InKind R (sense .kind) x y → Grammar.isFlag sense n inner x ≡ Grammar.isFlag form n inner′ y
+    unfolding Grammar.isFlag mapLex form
+    same-flag done = refl
+    same-flag (more {a = byte c} h) = refl
+    same-flag (more {a = mark} h) = refl
+    same-flag (more {a = ref r} h) = refl
+    same-flag (more {a = lone} h) = refl
+
+    alike-element : Rule (sense .kind) (Grammar.element sense n inner) (Grammar.element form n inner′)
+    unfolding Grammar.element form
+    alike-element x y h = alike-choose _ (first-is opening h) (alike-then (inners _ _ (after-rest h)) λ v w x y fit h. alike-closed v w fit h)
+        (alike-choose _ (λ i. eqb (same-plain h i) apostrophe || same-attribute 84 h i) (alike-then (alike-string-within n x y h) λ s t x y fit h. alike-strings s t (after-spaces h))
+        (alike-choose _ (same-flag h) (alike-then (alike-reference (alike-deeper n) h) λ r s x y fit h. both tt h)
+        (alike-then (alike-arithmetic n x y h) λ a b x y fit k. alike-numbers a b h k)))
+
+    alike-spaced : Rule (sense .kind) (Grammar.spaced sense n inner) (Grammar.spaced form n inner′)
+    unfolding Grammar.spaced
+    alike-spaced x y h = alike-then (alike-element _ _ (after-spaces h)) λ v w x y fit h. both tt (after-spaces h)
+
+    alike-negation : Rule (sense .kind) (Grammar.negation sense n inner) (Grammar.negation form n inner′)
+    unfolding Grammar.negation form isWord
+    alike-negation x y h = alike-choose _ (ap (same (bytes "NOT")) (same-word (after-spaces h)))
+        (alike-then (alike-spaced _ _ (after-drop 3 (after-spaces h))) λ v w x y fit h. both tt h) (alike-spaced _ _ (after-spaces h))
+
+    alike-conjunction : Rule (sense .kind) (Grammar.conjunction sense n inner) (Grammar.conjunction form n inner′)
+    unfolding Grammar.conjunction form isWord
+    alike-conjunction = alike-chain _ (λ x y h. ap (same (bytes "AND")) (same-word h)) (λ x y. after-drop 3) alike-negation
+
+    alike-disjunction : Rule (sense .kind) (Grammar.disjunction sense n inner) (Grammar.disjunction form n inner′)
+    unfolding Grammar.disjunction form isWord
+    alike-disjunction = alike-chain _ (λ x y h. ap (same (bytes "OR")) (same-word h)) (λ x y. after-drop 2) alike-conjunction
+
+  alike-deeper-condition : (n : ℕ) → Rule (sense .kind) (Grammar.deeperCondition sense n) (Grammar.deeperCondition form n)
+  unfolding Grammar.deeperCondition
+  alike-deeper-condition zero x y h = rw (same-length h) neither
+  alike-deeper-condition (suc n) x y h = alike-disjunction n (alike-deeper-condition n) x y h
+
+  pub alike-condition : (n : ℕ) → Rule (sense .kind) (Grammar.condition sense n) (Grammar.condition form n)
+  unfolding Grammar.condition
+  alike-condition n x y h = alike-choose _ (first-is opening h) (alike-then (alike-deeper-condition n _ _ (after-rest h)) λ v w x y fit h. alike-closed v w fit h) (alike-broken h)

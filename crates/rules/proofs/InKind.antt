@@ -55,6 +55,15 @@ module _ {R : Type 0} {kind : R → Kind} where
   unfolding rest
   after-rest h = after-drop 1 h
 
+  pub after-choose : (b : Bool) {c : Bool} {x x′ : List (Lex R)} {y y′ : List (Lex Kind)} → b ≡ c → InKind R kind x y → InKind R kind x′ y′
+    → InKind R kind (choose b x x′) (choose c y y′)
+  unfolding choose
+  after-choose b {x} {x′} {y} {y′} e h h′ = subst (λ c. InKind R kind (choose b x x′) (choose c y y′)) e (at b)
+    where
+      at : (b : Bool) → InKind R kind (choose b x x′) (choose b y y′)
+      at true = h
+      at false = h′
+
   -- how many bytes stand first that pass a test, and which they are
   pub same-run : (test : ℕ → Bool) {x : List (Lex R)} {y : List (Lex Kind)} → InKind R kind x y → run (λ a. test (byteOf a)) x ≡ run (λ a. test (byteOf a)) y
   unfolding run

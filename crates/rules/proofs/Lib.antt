@@ -4,3 +4,4 @@ pub mod Example
 pub mod InKind
 pub mod Alike
 pub mod AlikeRules
+pub mod Formed
