@@ -1,39 +1,38 @@
 -- Each rule of the grammar gives alike answers (proofs/Alike.antt) with any sense and with the sense of form: nothing that a value is decides which rule is next.
 use Prim.Native.Nat.{ℕ, zero, suc}
-use mathlib.Core.Path.{_≡_, refl, ap, sym, _∙_, subst}
-use mathlib.Core.Bool.{Bool, true, false, _&&_, _||_, not}
-use mathlib.Core.List.{List, [], _∷_, map}
-use mathlib.Core.Option.{Option, none, some}
+use mathlib.Core.Path.{_≡_, refl, ap}
+use mathlib.Core.Bool.{Bool, _&&_, _||_, not}
+use mathlib.Core.List.{List}
+use mathlib.Core.Option.{Option, some}
 use lib.Dec.{eqb, ltb}
-use lib.ListN.{length, take, drop}
-use Rattle.text.specs.Bytes.{Bytes, bytes, member, same}
+use lib.ListN.{length, drop}
+use Rattle.text.specs.Bytes.{bytes, member, same}
 use Rattle.text.specs.Characters.{letter, digit}
-use Rattle.rules.specs.Choice.{choose, run, while}
-use Rattle.rules.specs.Limits.{overLimit}
-use Rattle.rules.specs.Lexemes.{apostrophe, opening, comma, period, Lex, byte, mark, ref, lone, byteOf}
+use Rattle.rules.specs.Lexemes.{apostrophe, opening, comma, period, Lex, byte, mark, ref, lone}
 use Rattle.rules.specs.Fields.{isEmpty}
-use Rattle.rules.specs.Statement.{Set, setA, setB, setC, mapLex}
-use Rattle.rules.specs.Values.{Relation, spelt}
+use Rattle.rules.specs.Statement.{mapLex}
+use Rattle.rules.specs.Values.{spelt}
 use Rattle.rules.specs.Grammar
-use Rattle.rules.specs.Grammar.{Kind, parameter, symbol, syslist, sysndx, sysect, unknown, Reference, Got, got, refused, Sense, plain, rest, isAttribute, pastSpaces, wordAt, isWord, relationAt, then, broken, given, closed, chain}
+use Rattle.rules.specs.Grammar.{Kind, parameter, symbol, syslist, sysndx, sysect, unknown, Reference, Got, got, Sense, plain, pastSpaces, isWord}
 use Rattle.rules.specs.Form.{Nothing, form}
 use Rattle.rules.proofs.InKind.{InKind, done, more, same-plain, same-length, same-emptiness, after-drop, after-rest, after-choose, same-first, after-run, same-attribute, after-spaces, same-word, same-relation}
-use Rattle.rules.proofs.Alike.{Alike, both, value, neither, Any, Rule, alike-broken, alike-choose, alike-option, alike-then, alike-given, alike-closed, alike-while, alike-chain}
+use Rattle.rules.proofs.Alike.{Alike, both, neither, Any, Rule, alike-broken, alike-choose, alike-option, alike-then, alike-given, alike-closed, alike-while, alike-chain}
 
 -- two references of one kind, both with subscripts or both without
-pub record Alike-references (R N : Type 0) (kind : R → Kind) (r : Reference R N) (s : Reference Kind Nothing) : Type 0 where
+pub record AlikeReference {R N : Type 0} (kind : R → Kind) (r : Reference R N) (s : Reference Kind Nothing) : Type 0 where
   pub kind-same : kind (r .of) ≡ s .of
   pub bare-same : isEmpty (r .subscripts) ≡ isEmpty (s .subscripts)
 
 -- a test of the byte that stands first
-first-is : {R : Type 0} {kind : R → Kind} {x : List (Lex R)} {y : List (Lex Kind)} (c : ℕ) → InKind R kind x y → eqb (plain x) c ≡ eqb (plain y) c
+first-is : {R : Type 0} {kind : R → Kind} {x : List (Lex R)} {y : List (Lex Kind)} (c : ℕ) → InKind kind x y → eqb (plain x) c ≡ eqb (plain y) c
 first-is c h = ap (λ b. eqb b c) (same-plain h)
 
 module _ {R N S B : Type 0} (sense : Sense R N S B) where
+  -- arithmetic, texts and strings, if what stands in parentheses is alike
   module _ {inner : List (Lex R) → Got N R} {inner′ : List (Lex Kind) → Got Nothing Kind} (inners : Rule (sense .kind) inner inner′) where
-    alike-subscripts : (k : Kind) (r : R) {x : List (Lex R)} {y : List (Lex Kind)} → InKind R (sense .kind) x y
-      → Alike R (Reference R N) (Reference Kind Nothing) (sense .kind) (Alike-references R N (sense .kind)) (Grammar.subscripts sense inner k r x)
-      (Grammar.subscripts form inner′ k (sense .kind r) y)
+    alike-subscripts : (k : Kind) (r : R) {x : List (Lex R)} {y : List (Lex Kind)} → InKind (sense .kind) x y
+        → Alike (sense .kind) (AlikeReference (sense .kind)) (Grammar.subscripts sense inner k r x)
+        (Grammar.subscripts form inner′ k (sense .kind r) y)
     unfolding Grammar.subscripts isEmpty
     alike-subscripts parameter r h = alike-then (inners _ _ (after-rest h)) λ n m x y fit h. alike-closed _ _ (record { kind-same = refl; bare-same = refl }) h
     alike-subscripts (symbol k) r h = alike-broken h
@@ -44,8 +43,8 @@ module _ {R N S B : Type 0} (sense : Sense R N S B) where
     alike-subscripts sysect r h = alike-broken h
     alike-subscripts unknown r h = alike-broken h
 
-    alike-reference : {x : List (Lex R)} {y : List (Lex Kind)} → InKind R (sense .kind) x y
-      → Alike R (Reference R N) (Reference Kind Nothing) (sense .kind) (Alike-references R N (sense .kind)) (Grammar.reference sense inner x) (Grammar.reference form inner′ y)
+    alike-reference : {x : List (Lex R)} {y : List (Lex Kind)} → InKind (sense .kind) x y
+        → Alike (sense .kind) (AlikeReference (sense .kind)) (Grammar.reference sense inner x) (Grammar.reference form inner′ y)
     unfolding Grammar.reference mapLex form isEmpty
     alike-reference done = alike-broken done
     alike-reference (more {a = byte c} h) = alike-broken (more h)
@@ -54,8 +53,8 @@ module _ {R N S B : Type 0} (sense : Sense R N S B) where
     alike-reference (more {a = lone} h) = alike-broken (more h)
 
     alike-referred : {A : Type 0} (takes : Kind → Bool → Bool) (meant : Reference R N → Option A) {here x : List (Lex R)} {here′ y : List (Lex Kind)}
-      → InKind R (sense .kind) here here′ → InKind R (sense .kind) x y
-      → Alike R A Nothing (sense .kind) Any (Grammar.referred sense inner takes meant here x) (Grammar.referred form inner′ takes (λ r. some tt) here′ y)
+        → InKind (sense .kind) here here′ → InKind (sense .kind) x y
+        → Alike (sense .kind) Any (Grammar.referred sense inner takes meant here x) (Grammar.referred form inner′ takes (λ r. some tt) here′ y)
     unfolding Grammar.referred form
     alike-referred takes meant g h = alike-then (alike-reference h) λ r s x y fit h.
         alike-choose _ (λ i. takes (fit .kind-same i) (fit .bare-same i)) (alike-given (meant r) _ _ h) (alike-broken g)
@@ -88,8 +87,8 @@ module _ {R N S B : Type 0} (sense : Sense R N S B) where
         both tt (after-choose _ (first-is period h) (after-rest h) h)
     alike-piece x y (more {a = lone} h) = alike-broken (more h)
 
-    alike-add : (s : S) (t : Nothing) {x : List (Lex R)} {y : List (Lex Kind)} → InKind R (sense .kind) x y
-      → Alike R S Nothing (sense .kind) Any (Grammar.addPiece sense inner (got s x)) (Grammar.addPiece form inner′ (got t y))
+    alike-add : (s : S) (t : Nothing) {x : List (Lex R)} {y : List (Lex Kind)} → InKind (sense .kind) x y
+        → Alike (sense .kind) Any (Grammar.addPiece sense inner (got s x)) (Grammar.addPiece form inner′ (got t y))
     unfolding Grammar.addPiece form
     alike-add s t h = alike-then (alike-piece _ _ h) λ v w x y fit h. both tt h
 
@@ -97,7 +96,7 @@ module _ {R N S B : Type 0} (sense : Sense R N S B) where
     unfolding Grammar.text Grammar.goesOnText form
     alike-text x y h = rw (same-length h) (alike-while _ _ _ _ (λ e left. refl) (λ e left. refl) (λ v w x y h. ap not (same-emptiness h)) (λ v w x y fit. alike-add v w) (length y) (both tt h))
 
-    same-doubled : {x : List (Lex R)} {y : List (Lex Kind)} → InKind R (sense .kind) x y → Grammar.isDoubled sense inner x ≡ Grammar.isDoubled form inner′ y
+    same-doubled : {x : List (Lex R)} {y : List (Lex Kind)} → InKind (sense .kind) x y → Grammar.isDoubled sense inner x ≡ Grammar.isDoubled form inner′ y
     unfolding Grammar.isDoubled
     same-doubled h = λ i. eqb (same-plain h i) apostrophe && eqb (same-plain (after-rest h) i) apostrophe
 
@@ -109,8 +108,8 @@ module _ {R N S B : Type 0} (sense : Sense R N S B) where
         (λ v w x y fit h. alike-choose _ (same-doubled h) (both tt (after-drop 2 h)) (alike-add v w h)) (length y) (both tt h))
         λ s t x y fit h. alike-choose _ (first-is apostrophe h) (both tt (after-rest h)) (alike-broken h))
 
-    alike-substringed : (here : List (Lex R)) (here′ : List (Lex Kind)) (s : S) (t : Nothing) {x : List (Lex R)} {y : List (Lex Kind)} → InKind R (sense .kind) x y
-      → Alike R S Nothing (sense .kind) Any (Grammar.substringed sense inner here s x) (Grammar.substringed form inner′ here′ t y)
+    alike-substringed : (here : List (Lex R)) (here′ : List (Lex Kind)) (s : S) (t : Nothing) {x : List (Lex R)} {y : List (Lex Kind)} → InKind (sense .kind) x y
+        → Alike (sense .kind) Any (Grammar.substringed sense inner here s x) (Grammar.substringed form inner′ here′ t y)
     unfolding Grammar.substringed form
     alike-substringed here here′ s t h = alike-choose _ (first-is opening h)
         (alike-then (inners _ _ (after-rest h)) λ start w x y fit h. alike-choose _ (first-is comma h)
@@ -144,35 +143,36 @@ module _ {R N S B : Type 0} (sense : Sense R N S B) where
   unfolding Grammar.stringWithin
   alike-string-within n = alike-characters (alike-deeper n)
 
+  -- conditions, if those in parentheses are alike
   module _ (n : ℕ) {inner : List (Lex R) → Got B R} {inner′ : List (Lex Kind) → Got Nothing Kind} (inners : Rule (sense .kind) inner inner′) where
-    alike-strings : (s : S) (t : Nothing) {x : List (Lex R)} {y : List (Lex Kind)} → InKind R (sense .kind) x y
-      → Alike R B Nothing (sense .kind) Any (Grammar.comparedStrings sense n inner s x) (Grammar.comparedStrings form n inner′ t y)
+    alike-strings : (s : S) (t : Nothing) {x : List (Lex R)} {y : List (Lex Kind)} → InKind (sense .kind) x y
+        → Alike (sense .kind) Any (Grammar.comparedStrings sense n inner s x) (Grammar.comparedStrings form n inner′ t y)
     unfolding Grammar.comparedStrings form
     alike-strings s t h = alike-option _ (same-relation h) (alike-broken h)
         λ r. alike-then (alike-string-within n _ _ (after-spaces (after-drop 2 h))) λ s t x y fit h. both tt h
 
-    same-digit-alone : (c : ℕ) {here x : List (Lex R)} {here′ y : List (Lex Kind)} → InKind R (sense .kind) here here′ → InKind R (sense .kind) x y
-      → Grammar.isDigitAlone sense n inner c here x ≡ Grammar.isDigitAlone form n inner′ c here′ y
+    same-digit-alone : (c : ℕ) {here x : List (Lex R)} {here′ y : List (Lex Kind)} → InKind (sense .kind) here here′ → InKind (sense .kind) x y
+        → Grammar.isDigitAlone sense n inner c here x ≡ Grammar.isDigitAlone form n inner′ c here′ y
     unfolding Grammar.isDigitAlone
     same-digit-alone c g h = λ i. eqb (same-plain g i) c && eqb (same-length g i) (suc (same-length h i))
 
-    alike-constant : {here x : List (Lex R)} {here′ y : List (Lex Kind)} → InKind R (sense .kind) here here′ → InKind R (sense .kind) x y
-      → Alike R B Nothing (sense .kind) Any (Grammar.constantAt sense n inner here x) (Grammar.constantAt form n inner′ here′ y)
+    alike-constant : {here x : List (Lex R)} {here′ y : List (Lex Kind)} → InKind (sense .kind) here here′ → InKind (sense .kind) x y
+        → Alike (sense .kind) Any (Grammar.constantAt sense n inner here x) (Grammar.constantAt form n inner′ here′ y)
     unfolding Grammar.constantAt form
     alike-constant g h = alike-choose _ (same-digit-alone 48 g h) (both tt h) (alike-choose _ (same-digit-alone 49 g h) (both tt h) (alike-broken g))
 
-    alike-numbers : {here : List (Lex R)} {here′ : List (Lex Kind)} (a : N) (b : Nothing) {x : List (Lex R)} {y : List (Lex Kind)} → InKind R (sense .kind) here here′
-      → InKind R (sense .kind) x y
-      → Alike R B Nothing (sense .kind) Any (Grammar.comparedNumbers sense n inner here a x) (Grammar.comparedNumbers form n inner′ here′ b y)
+    alike-numbers : {here : List (Lex R)} {here′ : List (Lex Kind)} (a : N) (b : Nothing) {x : List (Lex R)} {y : List (Lex Kind)} → InKind (sense .kind) here here′
+        → InKind (sense .kind) x y
+        → Alike (sense .kind) Any (Grammar.comparedNumbers sense n inner here a x) (Grammar.comparedNumbers form n inner′ here′ b y)
     unfolding Grammar.comparedNumbers form
     alike-numbers a b g h = alike-option _ (same-relation (after-spaces h)) (alike-constant g h)
         λ r. alike-choose _ (first-is opening (behind h)) (alike-broken (behind h)) (alike-then (alike-arithmetic n _ _ (behind h)) λ v w x y fit h. both tt h)
       where
-        behind : {x : List (Lex R)} {y : List (Lex Kind)} → InKind R (sense .kind) x y
-          → InKind R (sense .kind) (pastSpaces (drop 2 (pastSpaces x))) (pastSpaces (drop 2 (pastSpaces y)))
+        behind : {x : List (Lex R)} {y : List (Lex Kind)} → InKind (sense .kind) x y
+            → InKind (sense .kind) (pastSpaces (drop 2 (pastSpaces x))) (pastSpaces (drop 2 (pastSpaces y)))
         behind h = after-spaces (after-drop 2 (after-spaces h))
 
-    same-flag : {x : List (Lex R)} {y : List (Lex Kind)} → InKind R (sense .kind) x y → Grammar.isFlag sense n inner x ≡ Grammar.isFlag form n inner′ y
+    same-flag : {x : List (Lex R)} {y : List (Lex Kind)} → InKind (sense .kind) x y → Grammar.isFlag sense n inner x ≡ Grammar.isFlag form n inner′ y
     unfolding Grammar.isFlag mapLex form
     same-flag done = refl
     same-flag (more {a = byte c} h) = refl

@@ -1,10 +1,9 @@
 -- A line that the grammar's test accepts is never refused as ill-formed or as too deep when it is carried out, whatever its variable symbols hold: a refusal of it
 -- is one of a value, or of a string over its limit.
 use Prim.Native.Nat.{ℕ}
-use mathlib.Core.Path.{_≡_, refl, ap, sym, _∙_}
-use mathlib.Core.Bool.{Bool, true, false, _&&_, _||_}
+use mathlib.Core.Path.{_≡_, refl}
+use mathlib.Core.Bool.{Bool, true, false, false≢true, and-eq-true-iff, _&&_, _||_}
 use mathlib.Core.List.{List, [], _∷_, map}
-use mathlib.Core.Option.{Option}
 use lib.Dec.{eqb, leb}
 use lib.ListN.{length}
 use lib.IntN.{ℤ, pos, negsuc}
@@ -12,11 +11,11 @@ use Rattle.rules.specs.Choice.{choose}
 use Rattle.rules.specs.Limits.{nestLimit, counterLimit, tooLong, badValue}
 use Rattle.rules.specs.Lexemes.{Lex, byte, mark, ref, lone}
 use Rattle.rules.specs.Statement.{Set, setA, setB, setC, Line, Does, passes, ends, exits, text, models, sets, branchesIf, branches, counts, mapLex, mapDoes, mapLine}
-use Rattle.rules.specs.Grammar.{Kind, Got, got, refused, whole, arithmetic, textWithin, stringWithin, condition}
+use Rattle.rules.specs.Grammar.{Kind, Got, textWithin}
 use Rattle.rules.specs.Form.{Nothing, form, isGot, isNamedBy, isOperandOf, isFormedBy, isFormed}
 use Rattle.rules.specs.Evaluate.{Cell, Chars, Value, number, truth, string, values}
 use Rattle.rules.specs.Decide.{Act, next, leave, jump, renew, keep, use′, state, refuse, whenGot, renewed, unless, valueOf, assigned, replaced, modelled, decideBy, decide}
-use Rattle.rules.proofs.InKind.{InKind, in-kind}
+use Rattle.rules.proofs.InKind.{in-kind}
 use Rattle.rules.proofs.Alike.{Alike, both, value, neither, Any, alike-whole}
 use Rattle.rules.proofs.AlikeRules.{alike-arithmetic, alike-text-within, alike-string-within, alike-condition}
 
@@ -31,27 +30,20 @@ isFine (use′ s) = true
 isFine (state n o a c) = true
 isFine (refuse e left) = eqb e badValue || eqb e tooLong
 
+-- a field's lexemes, as the test of form sees them
 abbrev kindOf : Cell → Kind
 kindOf c = c .kind
 
 abbrev kinds : List (Lex Cell) → List (Lex Kind)
 kinds x = map (mapLex kindOf) x
 
-and-left : (a b : Bool) → (a && b) ≡ true → a ≡ true
-and-left true b h = refl
-and-left false b h = h
-
-and-right : (a b : Bool) → (a && b) ≡ true → b ≡ true
-and-right true b h = h
-and-right false b h = cc
-
 -- what is alike to something that was accepted is a value, or was refused by one
-fine-when-got : {A : Type 0} {f : Got A Cell} {g : Got Nothing Kind} (k : A → Act) → Alike Cell A Nothing kindOf Any f g → isGot g ≡ true
-  → ((v : A) → isFine (k v) ≡ true) → isFine (whenGot f k) ≡ true
+fine-when-got : {A : Type 0} {f : Got A Cell} {g : Got Nothing Kind} (k : A → Act) → Alike kindOf Any f g → isGot g ≡ true
+    → ((v : A) → isFine (k v) ≡ true) → isFine (whenGot f k) ≡ true
 unfolding isFine whenGot isGot
 fine-when-got k (both fit h) e fine = fine _
 fine-when-got k value e fine = refl
-fine-when-got k neither e fine = cc
+fine-when-got k neither e fine = absurd (false≢true e)
 
 fine-unless : (over : Bool) (left : ℕ) (act : Act) → isFine act ≡ true → isFine (unless over left act) ≡ true
 unfolding isFine unless choose
@@ -73,7 +65,7 @@ fine-choose true t = refl
 fine-choose false t = refl
 
 fine-value : (s : Set) (x : List (Lex Cell)) (k : Value → Act) → isOperandOf nestLimit s (kinds x) ≡ true → ((v : Value) → isFine (k v) ≡ true)
-  → isFine (valueOf s x k) ≡ true
+    → isFine (valueOf s x k) ≡ true
 unfolding isOperandOf valueOf values
 fine-value setA x k e fine = fine-when-got _ (alike-whole (alike-arithmetic values nestLimit _ _ (in-kind kindOf x))) e λ n. fine (number n)
 fine-value setB x k e fine = fine-when-got _ (alike-whole (alike-condition values nestLimit _ _ (in-kind kindOf x))) e
@@ -81,14 +73,15 @@ fine-value setB x k e fine = fine-when-got _ (alike-whole (alike-condition value
 fine-value setC x k e fine = fine-when-got _ (alike-whole (alike-string-within values nestLimit _ _ (in-kind kindOf x))) e
     λ s. fine-unless (s .over) (length x) _ (fine (string (s .bytes)))
 
+-- a SET line is named by a symbol, so that there is somewhere to store
 fine-assigned : (n : List (Lex Cell)) (s : Set) (x : List (Lex Cell)) → isNamedBy s (kinds n) ≡ true → isOperandOf nestLimit s (kinds x) ≡ true
-  → isFine (assigned n s x) ≡ true
+    → isFine (assigned n s x) ≡ true
 unfolding isNamedBy mapLex assigned isFine
-fine-assigned [] s x named e = cc
-fine-assigned (byte c ∷ n) s x named e = cc
-fine-assigned (mark ∷ n) s x named e = cc
+fine-assigned [] s x named e = absurd (false≢true named)
+fine-assigned (byte c ∷ n) s x named e = absurd (false≢true named)
+fine-assigned (mark ∷ n) s x named e = absurd (false≢true named)
 fine-assigned (ref r ∷ n) s x named e = fine-value s x _ e λ v. refl
-fine-assigned (lone ∷ n) s x named e = cc
+fine-assigned (lone ∷ n) s x named e = absurd (false≢true named)
 
 -- a field of a model statement is a text
 abbrev isText : List (Lex Cell) → Bool
@@ -101,11 +94,9 @@ fine-field x k e fine = fine-when-got k (alike-text-within values nestLimit _ _ 
 fine-modelled : (l : Line Cell ℕ) → (isText (l .name) && (isText (l .operation) && isText (l .operand))) ≡ true → isFine (modelled l) ≡ true
 unfolding modelled isFine
 fine-modelled l e =
-    let n = isText (l .name) in
-    let o = isText (l .operation) in
-    let a = isText (l .operand) in
-    fine-field (l .name) _ (and-left n (o && a) e) λ s. fine-field (l .operation) _ (and-left o a (and-right n (o && a) e)) λ t.
-    fine-field (l .operand) _ (and-right o a (and-right n (o && a) e)) λ u. refl
+    let p = and-eq-true-iff (isText (l .name)) (isText (l .operation) && isText (l .operand)) .0 e in
+    let q = and-eq-true-iff (isText (l .operation)) (isText (l .operand)) .0 (p .1) in
+    fine-field (l .name) _ (p .0) λ n. fine-field (l .operation) _ (q .0) λ o. fine-field (l .operand) _ (q .1) λ a. refl
 
 formed-decides-by : (l : Line Cell ℕ) (d : Does ℕ) → isFormedBy nestLimit (mapLine kindOf (λ t. t) l) (mapDoes (λ t. t) d) ≡ true → isFine (decideBy l d) ≡ true
 unfolding isFormedBy mapLine mapDoes decideBy isFine values
@@ -115,9 +106,8 @@ formed-decides-by l exits e = refl
 formed-decides-by l (text s) e = refl
 formed-decides-by l models e = fine-modelled l e
 formed-decides-by l (sets s) e =
-    let named = isNamedBy s (kinds (l .name)) in
-    let formed = isOperandOf nestLimit s (kinds (l .operand)) in
-    fine-assigned (l .name) s (l .operand) (and-left named formed e) (and-right named formed e)
+    let p = and-eq-true-iff (isNamedBy s (kinds (l .name))) (isOperandOf nestLimit s (kinds (l .operand))) .0 e in
+    fine-assigned (l .name) s (l .operand) (p .0) (p .1)
 formed-decides-by l (branchesIf t) e = fine-when-got _ (alike-whole (alike-condition values nestLimit _ _ (in-kind kindOf (l .operand)))) e
     λ b. fine-unless (b .over) (length (l .operand)) _ (fine-choose (b .holds) t)
 formed-decides-by l (branches t) e = refl
