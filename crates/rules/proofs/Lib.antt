@@ -1,3 +1,11 @@
+pub mod Choices
 pub mod Computing
 pub mod Worked
 pub mod Example
+pub mod Lossless
+pub mod InKind
+pub mod Alike
+pub mod AlikeRules
+pub mod Formed
+pub mod Ends
+pub mod Closed

@@ -10,6 +10,7 @@ pub mod Evaluate
 pub mod Calls
 pub mod Decide
 pub mod Machine
+pub mod Places
 pub mod Library
 pub mod ByLines
 pub mod Faults
