@@ -187,3 +187,132 @@ flag-same false h = refl
 pub flag-faithful : Faithful flag Any
 unfolding flag
 flag-faithful = via-faithful flagCode flagOf flag-byte flag-same byte-faithful
+
+-- lines: a line has the fields that its coding writes, and no other
+abbrev pub HasNoFields : Line Slot ℕ → Type 0
+HasNoFields l = (l .name ≡ []) × ((l .operation ≡ []) × (l .operand ≡ []))
+
+abbrev pub HasOperandOnly : Line Slot ℕ → Type 0
+HasOperandOnly l = (l .name ≡ []) × (l .operation ≡ [])
+
+abbrev pub FitsDoing : Line Slot ℕ → Does ℕ → Type 0
+FitsDoing l passes = HasNoFields l
+FitsDoing l ends = HasNoFields l
+FitsDoing l exits = HasNoFields l
+FitsDoing l (text s) = FitsString s × HasNoFields l
+FitsDoing l models = Unit {0}
+FitsDoing l (sets k) = l .operation ≡ []
+FitsDoing l (branchesIf t) = IsCount t × HasOperandOnly l
+FitsDoing l (branches t) = IsCount t × HasNoFields l
+FitsDoing l counts = HasOperandOnly l
+
+abbrev pub FitsLine : Line Slot ℕ → Type 0
+FitsLine l = FitsField (l .name) × (FitsField (l .operation) × (FitsField (l .operand) × FitsDoing l (l .does)))
+
+-- a line that sets is told by the byte that also names the kind
+sets-byte : (k : Set) → IsByte (setsCode + setCode k)
+unfolding setCode
+sets-byte setA = omega arith
+sets-byte setB = omega arith
+sets-byte setC = omega arith
+
+sets-back : (k : Set) (s : Bytes) → getLineBy (setsCode + setCode k) s ≡ setsLine k s
+unfolding getLineBy getSets setOf setCode choose
+sets-back setA s = refl
+sets-back setB s = refl
+sets-back setC s = refl
+
+module _ (l : Line Slot ℕ) where
+  abbrev FieldsFit : Type 0
+  FieldsFit = FitsField (l .name) × (FitsField (l .operation) × FitsField (l .operand))
+
+  -- a line that is rebuilt from what it does and its fields
+  bare : {d : Does ℕ} → l .does ≡ d → HasNoFields l → doing d ≡ l
+  unfolding doing
+  bare e h = λ i. record { does = sym e i; name = sym (h .0) i; operation = sym (h .1 .0) i; operand = sym (h .1 .1) i }
+
+  operand-only : {d : Does ℕ} → l .does ≡ d → HasOperandOnly l → _≡_ {A = Line Slot ℕ} (record { does = d; name = []; operation = []; operand = l .operand }) l
+  operand-only e h = λ i. record { does = sym e i; name = sym (h .0) i; operation = sym (h .1) i; operand = l .operand }
+
+  line-back : (d : Does ℕ) → l .does ≡ d → FieldsFit → FitsDoing l d → (s : Bytes) → after (getByte (putLineBy l d ++ s)) getLineBy ≡ some (l, s)
+  unfolding putLineBy getLineBy getByte after choose getText getModels getBranchIf getBranch getCounts setsLine
+  line-back passes e f h s = ap (λ x. some (x, s)) (bare e h)
+  line-back ends e f h s = ap (λ x. some (x, s)) (bare e h)
+  line-back exits e f h s = ap (λ x. some (x, s)) (bare e h)
+  line-back (text t) e f h s = rw (string-faithful .back t (h .0)) (ap (λ x. some (x, s)) (bare e (h .1)))
+  line-back models e f h s =
+      rw (append-assoc, field-faithful .back (l .name) (f .0), append-assoc, field-faithful .back (l .operation) (f .1 .0), field-faithful .back (l .operand) (f .1 .1))
+      (λ i. some (record { does = sym e i; name = l .name; operation = l .operation; operand = l .operand }, s))
+  line-back (sets k) e f h s =
+      rw (sets-back k, append-assoc, field-faithful .back (l .name) (f .0), field-faithful .back (l .operand) (f .1 .1))
+      (λ i. some (record { does = sym e i; name = l .name; operation = sym h i; operand = l .operand }, s))
+  line-back (branchesIf t) e f h s =
+      rw (append-assoc, two-faithful .back t (h .0), field-faithful .back (l .operand) (f .1 .1)) (ap (λ x. some (x, s)) (operand-only e (h .1)))
+  line-back (branches t) e f h s = rw (two-faithful .back t (h .0)) (ap (λ x. some (x, s)) (bare e (h .1)))
+  line-back counts e f h s = rw (field-faithful .back (l .operand) (f .1 .1)) (ap (λ x. some (x, s)) (operand-only e h))
+
+  line-bytes : (d : Does ℕ) → FieldsFit → FitsDoing l d → All IsByte (putLineBy l d)
+  unfolding putLineBy
+  line-bytes passes f h = (omega arith, tt)
+  line-bytes ends f h = (omega arith, tt)
+  line-bytes exits f h = (omega arith, tt)
+  line-bytes (text t) f h = (omega arith, string-faithful .bytes t (h .0))
+  line-bytes models f h =
+      (omega arith, all-append IsByte (field .put (l .name)) (field .put (l .operation) ++ field .put (l .operand)) (field-faithful .bytes (l .name) (f .0))
+      (all-append IsByte (field .put (l .operation)) (field .put (l .operand)) (field-faithful .bytes (l .operation) (f .1 .0)) (field-faithful .bytes (l .operand) (f .1 .1))))
+  line-bytes (sets k) f h =
+      (sets-byte k, all-append IsByte (field .put (l .name)) (field .put (l .operand)) (field-faithful .bytes (l .name) (f .0)) (field-faithful .bytes (l .operand) (f .1 .1)))
+  line-bytes (branchesIf t) f h =
+      (omega arith, all-append IsByte (two .put t) (field .put (l .operand)) (two-faithful .bytes t (h .0)) (field-faithful .bytes (l .operand) (f .1 .1)))
+  line-bytes (branches t) f h = (omega arith, two-faithful .bytes t (h .0))
+  line-bytes counts f h = (omega arith, field-faithful .bytes (l .operand) (f .1 .1))
+
+pub line-faithful : Faithful line FitsLine
+unfolding line
+line-faithful = record {
+  back = λ l h s. line-back l (l .does) refl (h .0, (h .1 .0, h .1 .1 .0)) (h .1 .1 .1) s;
+  bytes = λ l h. line-bytes l (l .does) (h .0, (h .1 .0, h .1 .1 .0)) (h .1 .1 .1);
+}
+
+-- macros and decks
+abbrev pub FitsKeywords : List (Bytes × Bytes) → Type 0
+FitsKeywords ks = IsCount (length ks) × All (λ k. FitsString (k .0) × FitsString (k .1)) ks
+
+abbrev pub FitsKinds : List Set → Type 0
+FitsKinds ks = IsCount (length ks)
+
+abbrev pub FitsMacro : DeckMacro → Type 0
+FitsMacro m =
+    FitsString (m .title)
+    × (IsCount (m .positionals) × (FitsKeywords (m .keywords) × (FitsKinds (m .locals) × (IsCount (length (m .lines)) × All FitsLine (m .lines)))))
+
+abbrev pub FitsDeck : Deck → Type 0
+FitsDeck d = FitsKinds (d .globals) × (IsCount (length (d .macros)) × All FitsMacro (d .macros))
+
+-- every list of kinds is one of things that fit
+all-any : {A : Type 0} (l : List A) → All Any l
+all-any [] = tt
+all-any (a ∷ l) = (tt, all-any l)
+
+pub macro-faithful : Faithful macro FitsMacro
+unfolding macro partsOf macroOf
+macro-faithful = via-faithful partsOf macroOf
+    (λ m h. (h .0, (tt, (h .1 .0, (h .1 .1 .0, ((h .1 .1 .1 .0, all-any (m .locals)), h .1 .1 .1 .1))))))
+    (λ m h. refl)
+    (pair-faithful string-faithful (pair-faithful flag-faithful (pair-faithful two-faithful
+    (pair-faithful (list-faithful (pair-faithful string-faithful string-faithful)) (pair-faithful (list-faithful kind-faithful) (list-faithful line-faithful))))))
+
+pub contents-faithful : Faithful contents FitsDeck
+unfolding contents deckFrom
+contents-faithful = via-faithful (λ d. (d .globals, d .macros)) deckFrom
+    (λ d h. ((h .0, all-any (d .globals)), h .1)) (λ d h. refl) (pair-faithful (list-faithful kind-faithful) (list-faithful macro-faithful))
+
+pub deck-back : (d : Deck) → FitsDeck d → length (contents .put d) < 4294967295 → decoded (encoded d) ≡ some d
+unfolding decoded encoded counted versioned wholeDeck choose
+deck-back d h small =
+    let n = suc (length (contents .put d)) in
+    rw (four-faithful .back n (omega arith), eq-eqb n n refl, ← append-nil (contents .put d), contents-faithful .back d h [])
+
+pub deck-bytes : (d : Deck) → FitsDeck d → All (λ b. b < 256) (encoded d)
+unfolding encoded four
+deck-bytes d h = (omega arith, (omega arith, (omega arith, (omega arith, (omega arith, contents-faithful .bytes d h)))))
