@@ -1,4 +1,4 @@
--- Laws of lists: a fact of each element, one map after another, an element of a map. Assumes nothing.
+-- Laws of lists: a fact of each element, one map after another. Assumes nothing.
 use Prim.Native.Nat.{ℕ, zero, suc, _+_, _<_}
 use native.Mathlib.Omega.{arith}
 use mathlib.Core.Path.{_≡_, refl, ap, _∙_}
@@ -13,14 +13,15 @@ pub all-append : {A : Type 0} (P : A → Type 0) (s t : List A) → All P s → 
 all-append P [] t h k = k
 all-append P (a ∷ s) t h k = (h .0, all-append P s t (h .1) k)
 
+-- what each element has, and the one that stands for those behind the last, each place has
+pub all-getD : {A : Type 0} (P : A → Type 0) (l : List A) (i : ℕ) (d : A) → All P l → P d → P (getD l i d)
+all-getD P [] i d h k = k
+all-getD P (a ∷ l) zero d h k = h .0
+all-getD P (a ∷ l) (suc i) d h k = all-getD P l i d (h .1) k
+
 pub map-map : {A B C : Type 0} (f : A → B) (g : B → C) {h : A → C} → ((a : A) → g (f a) ≡ h a) → (l : List A) → map g (map f l) ≡ map h l
 map-map f g e [] = refl
 map-map f g e (a ∷ l) = λ i. e a i ∷ map-map f g e l i
-
-pub getD-map : {A B : Type 0} (f : A → B) (l : List A) (i : ℕ) (d : A) → getD (map f l) i (f d) ≡ f (getD l i d)
-getD-map f [] i d = refl
-getD-map f (a ∷ l) zero d = refl
-getD-map f (a ∷ l) (suc i) d = getD-map f l i d
 
 -- a map that gives the same for every element
 pub map-constant : {A B : Type 0} (b : B) (l : List A) → map (λ a. b) l ≡ replicate (length l) b
