@@ -1,12 +1,11 @@
 -- What a coder writes of a thing that fits, it reads back, whatever follows; and what it writes are bytes. So a deck that fits is read back from its bytes.
-use Prim.Native.Nat.{ℕ, zero, suc, _+_, _*_, _-_, _/_, _%_, _≤_, _<_}
+use Prim.Native.Nat.{ℕ, suc, _+_, _*_, _-_, _/_, _%_, _<_}
 use native.Mathlib.Nat.{div-add-mod'}
 use native.Mathlib.Omega.{arith}
 use mathlib.Core.Path.{_≡_, refl, ap, sym, _∙_}
 use mathlib.Core.Bool.{Bool, true, false}
 use mathlib.Core.List.{List, [], _∷_, _++_, append-assoc, append-nil}
-use mathlib.Core.Option.{Option, none, some}
-use lib.Dec.{eqb, ltb}
+use mathlib.Core.Option.{Option, some}
 use lib.ListN.{length}
 use borrow.Author.Tests.{lt-ltb, le-ltb, eq-eqb, ne-eqb}
 use Rattle.text.specs.Bytes.{Bytes}
@@ -14,9 +13,9 @@ use Rattle.rules.specs.Choice.{choose}
 use Rattle.rules.specs.Lexemes.{Lex, byte as char, mark, ref, lone}
 use Rattle.rules.specs.Statement.{Set, setA, setB, setC, Line, Does, passes, ends, exits, text, models, sets, branchesIf, branches, counts, doing}
 use Rattle.rules.proofs.Choices.{chosen, passed-over}
-use Rattle.deck.specs.Coding.{Read, after, made, Coder, getByte, byte, two, four, pair, via, putAll, getAll, listOf}
+use Rattle.deck.specs.Coding.{after, made, Coder, getByte, byte, two, four, pair, via, putAll, getAll, listOf}
 use Rattle.deck.specs.Slots.{Slot, own, shared, list, index, section, nowhere, DeckMacro, Deck}
-use Rattle.deck.specs.Coders.{markCode, ownCode, sharedCode, listCode, slotCode, lexCode, lexOf, lexeme, field, string, setCode, setOf, kind, flagCode, flagOf, flag, setsCode, putLineBy, setsLine, getSets, getModels, getText, getBranchIf, getBranch, getCounts, getLineBy, line, partsOf, macroOf, macro, deckFrom, contents, versionByte, encoded, wholeDeck, versioned, counted, decoded}
+use Rattle.deck.specs.Coders.{markCode, ownCode, sharedCode, listCode, slotCode, lexCode, lexOf, lexeme, field, string, setCode, setOf, kind, flagCode, flagOf, flag, setsCode, putLineBy, setsLine, getSets, getModels, getText, getBranchIf, getBranch, getCounts, getLineBy, line, partsOf, macroOf, macro, deckFrom, contents, encoded, wholeDeck, versioned, counted, decoded}
 use Rattle.deck.proofs.Lists.{All, all-append}
 
 abbrev pub IsByte : ℕ → Type 0
@@ -26,6 +25,7 @@ IsByte b = b < 256
 abbrev pub IsCount : ℕ → Type 0
 IsCount n = n < 65536
 
+-- a record, so that a coder and what fits it can be left out where this is used
 pub record Faithful {A : Type 0} (c : Coder A) (Fits : A → Type 0) : Type 0 where
   pub back : (a : A) → Fits a → (s : Bytes) → c .get (c .put a ++ s) ≡ some (a, s)
   pub bytes : (a : A) → Fits a → All IsByte (c .put a)
@@ -45,10 +45,10 @@ pub four-faithful : Faithful four (λ n. n < 4294967296)
 unfolding four two getByte after
 four-faithful = record {
   back = λ n h s.
-    let quarter : n / 16777216 ≡ n / 65536 / 256 = omega arith in
-    let high : n / 65536 / 256 % 256 * 256 + n / 65536 % 256 ≡ n / 65536 = omega arith in
-    let low : n / 256 % 256 * 256 + n % 256 ≡ n % 65536 = omega arith in
-    rw (quarter, high, low, div-add-mod');
+      let quarter : n / 16777216 ≡ n / 65536 / 256 = omega arith in
+      let high : n / 65536 / 256 % 256 * 256 + n / 65536 % 256 ≡ n / 65536 = omega arith in
+      let low : n / 256 % 256 * 256 + n % 256 ≡ n % 65536 = omega arith in
+      rw (quarter, high, low, div-add-mod');
   bytes = λ n h. (omega arith, (omega arith, (omega arith, (omega arith, tt))));
 }
 
@@ -155,7 +155,7 @@ unfolding string
 string-faithful = list-faithful byte-faithful
 
 -- kinds and flags: all of them fit
-abbrev Any : {A : Type 0} → A → Type 0
+abbrev pub Any : {A : Type 0} → A → Type 0
 Any a = Unit {0}
 
 kind-byte : (k : Set) → Any k → IsByte (setCode k)
@@ -257,9 +257,11 @@ module _ (l : Line Slot ℕ) where
   line-bytes ends f h = (omega arith, tt)
   line-bytes exits f h = (omega arith, tt)
   line-bytes (text t) f h = (omega arith, string-faithful .bytes t (h .0))
-  line-bytes models f h =
-      (omega arith, all-append IsByte (field .put (l .name)) (field .put (l .operation) ++ field .put (l .operand)) (field-faithful .bytes (l .name) (f .0))
-      (all-append IsByte (field .put (l .operation)) (field .put (l .operand)) (field-faithful .bytes (l .operation) (f .1 .0)) (field-faithful .bytes (l .operand) (f .1 .1))))
+  line-bytes models f h = (
+    omega arith,
+    all-append IsByte (field .put (l .name)) (field .put (l .operation) ++ field .put (l .operand)) (field-faithful .bytes (l .name) (f .0))
+        (all-append IsByte (field .put (l .operation)) (field .put (l .operand)) (field-faithful .bytes (l .operation) (f .1 .0)) (field-faithful .bytes (l .operand) (f .1 .1))),
+  )
   line-bytes (sets k) f h =
       (sets-byte k, all-append IsByte (field .put (l .name)) (field .put (l .operand)) (field-faithful .bytes (l .name) (f .0)) (field-faithful .bytes (l .operand) (f .1 .1)))
   line-bytes (branchesIf t) f h =
@@ -307,6 +309,7 @@ unfolding contents deckFrom
 contents-faithful = via-faithful (λ d. (d .globals, d .macros)) deckFrom
     (λ d h. ((h .0, all-any (d .globals)), h .1)) (λ d h. refl) (pair-faithful (list-faithful kind-faithful) (list-faithful macro-faithful))
 
+-- the count before the deck has four bytes
 pub deck-back : (d : Deck) → FitsDeck d → length (contents .put d) < 4294967295 → decoded (encoded d) ≡ some d
 unfolding decoded encoded counted versioned wholeDeck choose
 deck-back d h small =

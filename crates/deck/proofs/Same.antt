@@ -1,9 +1,9 @@
 -- Demand 3: expanding through the deck of a library is expanding by the library's own lines.
-use Prim.Native.Nat.{ℕ, zero, suc, _+_, _<_}
+use Prim.Native.Nat.{ℕ, suc, _<_}
 use mathlib.Core.Path.{_≡_, refl, ap, sym, _∙_}
 use mathlib.Core.Bool.{Bool, true, false, not}
 use mathlib.Core.List.{List, [], _∷_, _++_, map}
-use mathlib.Core.Option.{Option, none, some}
+use mathlib.Core.Option.{none, some}
 use lib.Dec.{ltb}
 use lib.ListN.{length, length-append, length-map, getD, List·getD-map, replicate}
 use borrow.Author.Tests.{ltb-true}
@@ -14,13 +14,13 @@ use Rattle.rules.specs.Limits.{workspaceSize, shortWorkspace}
 use Rattle.rules.specs.Lexemes.{Lex, byte, mark, ref, lone, marked, symbols, lexed, isSequence}
 use Rattle.rules.specs.Fields.{linesOf, startsWith, isCopiedRemark, isDroppedRemark, operandEnd, fieldsOf, isEmpty}
 use Rattle.rules.specs.Statement.{Set, setA, Line, mapLine, mapLex, Does, passes, ends, exits, text, models, sets, branchesIf, branches, counts, mapDoes, statements, statementOf, isCopied, doing, says, read}
-use Rattle.rules.specs.Grammar.{Kind, parameter, symbol, unknown}
-use Rattle.rules.specs.Evaluate.{Value, Store, Cell, ownCell, sharedCell}
-use Rattle.rules.specs.Machine.{Header, Level, Machine, Answer, atOnce, expansion, Outcome, outcome, outputAfter, workspaceAfter}
+use Rattle.rules.specs.Grammar.{parameter, symbol, unknown}
+use Rattle.rules.specs.Evaluate.{Value, Store, ownCell, sharedCell}
+use Rattle.rules.specs.Machine.{Level, Answer, atOnce, expansion, outcome, outputAfter, workspaceAfter}
 use Rattle.rules.specs.Library.{Macro, outer, macrosFrom, Names, namesIn, startSymbol, firsts, seconds, parameterNames, globalsOf, lineNamed}
 use Rattle.rules.specs.ByLines.{ownNames, ownKinds, systemNamed, cellNamed, headerOf, Reading, reading, noReading, lineIn, machineOf, machineOfLines, byLines}
 use Rattle.rules.proofs.Choices.{chosen}
-use Rattle.deck.specs.Slots.{Slot, own, shared, DeckMacro, Deck, systemSlot, resolved, resolvedLine, deckMacro, deckIn, resolvedLibrary, parameters, ownKindsOf, slotKind, held, noMacro, noLine, deckHeader, machineOfDeck}
+use Rattle.deck.specs.Slots.{Deck, systemSlot, resolved, resolvedLine, deckMacro, deckIn, resolvedLibrary, parameters, ownKindsOf, slotKind, held, noMacro, noLine, deckHeader, machineOfDeck}
 use Rattle.deck.specs.Coders.{decoded}
 use Rattle.deck.specs.Good.{isGood, ifGood, goodDeck}
 use Rattle.deck.specs.ByDeck.{deckAnswer, deckExpansion, byDeck}
@@ -79,12 +79,12 @@ unfolding reading namesIn
 all-named-once [] = tt
 all-named-once (m ∷ ms) = (named-once _, all-named-once ms)
 
--- so a macro's own symbols have the same kinds in the deck
 length-firsts : {X : Type 0} (ks : List (Bytes × X)) → length (firsts ks) ≡ length ks
 unfolding firsts
 length-firsts [] = refl
 length-firsts (k ∷ ks) = ap suc (length-firsts ks)
 
+-- so a macro's own symbols have the same kinds in the deck
 parameters-same : (r : Reading) (gs : List (Bytes × Set)) → IsNamedOnce r → parameters (deckMacro gs r) ≡ length (parameterNames (r .names))
 unfolding parameters deckMacro parameterNames
 parameters-same r gs h = rw (h, length-append, length-append, length-firsts)
@@ -94,6 +94,13 @@ unfolding ownKindsOf ownKinds deckMacro
 own-kinds-same r gs h =
     ap (λ n. replicate n parameter ++ map symbol (seconds (r .names .locals))) (parameters-same r gs h)
     ∙ ap (λ ks. ks ++ map symbol (seconds (r .names .locals))) (sym (map-constant parameter (parameterNames (r .names))))
+
+-- a library's macros with their names, and its globals
+abbrev pub readingsOf : Bytes → List Reading
+readingsOf library = map reading (macrosFrom outer (linesOf library))
+
+abbrev pub globalsIn : Bytes → List (Bytes × Set)
+globalsIn library = globalsOf [] (map (λ r. r .names) (readingsOf library))
 
 -- the globals that a macro with these names declares have the kinds that the library gives them
 abbrev IsOneKind : Names → List (Bytes × Set) → Type 0
@@ -174,12 +181,6 @@ module _ (gs : List (Bytes × Set)) where
   header-at : (rs : List Reading) (k : ℕ) → deckHeader (getD (map (deckMacro gs) rs) k noMacro) ≡ (let r = getD rs k noReading in headerOf (r .names) (r .body))
   header-at rs k = ap deckHeader (macro-at rs k) ∙ header-same (getD rs k noReading)
 
-abbrev pub readingsOf : Bytes → List Reading
-readingsOf library = map reading (macrosFrom outer (linesOf library))
-
-abbrev pub globalsIn : Bytes → List (Bytes × Set)
-globalsIn library = globalsOf [] (map (λ r. r .names) (readingsOf library))
-
 machine-of-readings : (rs : List Reading) (gs : List (Bytes × Set)) → All IsNamedOnce rs → OneKind rs gs → machineOfDeck (deckIn rs gs) ≡ machineOf rs gs
 unfolding machineOfDeck machineOf deckIn deckMacro
 machine-of-readings rs gs h o = λ i. record {
@@ -189,6 +190,7 @@ machine-of-readings rs gs h o = λ i. record {
   globals = seconds gs;
 }
 
+-- a deck is a machine that no expansion can tell from the library's lines
 pub same-machine : (library : Bytes) → OneKind (readingsOf library) (globalsIn library) → machineOfDeck (resolvedLibrary library) ≡ machineOfLines library
 unfolding resolvedLibrary machineOfLines
 same-machine library h = machine-of-readings (readingsOf library) (globalsIn library) (all-named-once (macrosFrom outer (linesOf library))) h
