@@ -1,3 +1,5 @@
 pub mod Lists
 pub mod Coding
 pub mod Same
+pub mod Computing
+pub mod Example
