@@ -3,3 +3,4 @@ pub mod Coding
 pub mod Same
 pub mod Computing
 pub mod Example
+pub mod GoodRuns

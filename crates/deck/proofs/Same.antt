@@ -52,7 +52,7 @@ mapDoes-same h (branchesIf t) = refl
 mapDoes-same h (branches t) = refl
 mapDoes-same h counts = refl
 
-mapLine-mapLine : {R S T L M : Type 0} (f : R → S) (g : S → T) {k : R → T} (h : L → M) → ((r : R) → g (f r) ≡ k r)
+pub mapLine-mapLine : {R S T L M : Type 0} (f : R → S) (g : S → T) {k : R → T} (h : L → M) → ((r : R) → g (f r) ≡ k r)
     → (l : Line R L) → mapLine g (λ t. t) (mapLine f h l) ≡ mapLine k h l
 unfolding mapLine
 mapLine-mapLine f g h e l = λ i. record {
