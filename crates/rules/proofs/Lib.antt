@@ -1,4 +1,5 @@
 pub mod Choices
+pub mod Logic
 pub mod Computing
 pub mod Worked
 pub mod Example
@@ -9,3 +10,11 @@ pub mod AlikeRules
 pub mod Formed
 pub mod Ends
 pub mod Closed
+pub mod Accepted
+pub mod Said
+pub mod Texts
+pub mod Counting
+pub mod Symbols
+pub mod FormedLines
+pub mod Refusals
+pub mod Library
