@@ -1,2 +1,4 @@
 pub mod Relabelled
 pub mod SameRead
+pub mod Exchanged
+pub mod SetBySequence

@@ -1,0 +1,48 @@
+-- A SET line that a sequence symbol names is refused by translation, but has a place in `resolvedLibrary`, its name as it is written: so the relation, without
+-- acceptance, holds of two libraries whose decks differ.
+use mathlib.Core.Path.{_≡_, refl, ap, sym, _∙_}
+use mathlib.Core.Bool.{Bool, true, false, false≢true}
+use mathlib.Core.List.{List, [], _∷_}
+use Rattle.text.specs.Bytes.{Bytes, bytes, same}
+use Rattle.text.specs.Words.{placeAmong}
+use Rattle.rules.specs.Choice.{choose, any}
+use Rattle.rules.specs.Fields.{linesOf}
+use Rattle.rules.specs.Faults.{faulty}
+use Rattle.rules.proofs.Computing.{answers, judged}
+use Rattle.deck.specs.Coding as Coding
+use Rattle.deck.specs.Coders as Coders
+use Rattle.deck.specs.Slots as Slots
+use Rattle.deck.specs.Slots.{resolvedLibrary}
+use Rattle.deck.specs.Translation.{deckOf}
+use Rattle.demands.specs.Renaming.{Renaming, OneForOne, keptNames, Renamed, RenamedLines, none, outside, definition, RenamedSequence, RenamedName, sequence, RenamedFields, RenamedLine, statement, RenamedBody, last, _then_, plain}
+use Rattle.demands.proofs.Exchanged.{exchanged, exchanged-one}
+
+abbrev before : Bytes
+before = bytes " MACRO\n M\n.A SETA 1\n MEND\n"
+
+abbrev after : Bytes
+after = bytes " MACRO\n M\n.B SETA 1\n MEND\n"
+
+abbrev naming : Renaming
+naming = record { symbols = λ n. n; sequences = exchanged (bytes "A") (bytes "B") }
+
+it-is-renamed : Renamed before after
+unfolding answers exchanged
+it-is-renamed =
+    definition {b = bytes ".A SETA 1" ∷ bytes " MEND" ∷ []} {c = bytes ".B SETA 1" ∷ bytes " MEND" ∷ []} {ls = []} {ms = []} naming refl
+    (record { no-remark = refl; no-remark₂ = refl; name = refl; gap = refl; operation = refl; gap₂ = refl; operand = refl; keywords = refl; remarks = refl })
+    (_then_ (refl, statement refl refl (record {
+      name = sequence (record { was = refl; now = refl; renamed = refl });
+      gap = refl;
+      operation = refl;
+      gap₂ = refl;
+      operand = refl;
+      remarks = refl;
+    }))
+    (last refl (statement refl refl (record { name = plain refl refl refl; gap = refl; operation = refl; gap₂ = refl; operand = refl; remarks = refl }))))
+    (record { symbols-one = λ a b e. e; sequences-one = exchanged-one (bytes "A") (bytes "B"); kept = λ n k. refl })
+    none
+
+decks-differ : deckOf after ≡ deckOf before → ⊥
+unfolding answers deckOf Coding.byte Coding.two Coding.four Coding.pair Coding.via Coding.putAll Coding.listOf Coders.encoded Coders.contents Coders.macro Coders.string Coders.partsOf Coders.flag Coders.flagCode Coders.line Coders.putLineBy Coders.field Coders.lexeme Coders.lexCode Coders.setCode Slots.resolvedLibrary Slots.deckIn Slots.deckMacro Slots.resolvedLine
+decks-differ e = false≢true (ap (same (deckOf before)) e)
