@@ -1,5 +1,7 @@
+pub mod NamedSets
 pub mod Relabelled
-pub mod SameRead
 pub mod Exchanged
-pub mod SetBySequence
+pub mod SameRead
 pub mod SameNames
+pub mod SameDeck
+pub mod SetBySequence

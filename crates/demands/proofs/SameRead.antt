@@ -16,9 +16,10 @@ use Rattle.rules.specs.Statement.{Statement, macro, mend, mexit, local, global,
 use Rattle.rules.proofs.Choices.{by, chosen, passed-over, and-left, and-right}
 use Rattle.rules.proofs.Logic.{clash, then-not}
 use Rattle.rules.proofs.Lossless.{lexed-back, fields-back}
-use Rattle.rules.proofs.Said.{statementOn, remark-says, statement-says}
+use Rattle.rules.proofs.Said.{remark-says, statement-says}
 use Rattle.demands.specs.Renaming.{Renaming, RenamedText, RenamedSequence, RenamedName, sequence, plain, RenamedBranch, RenamedOperand, RenamedFields, RenamedLine, remark, statement}
 use Rattle.demands.proofs.Relabelled.{same-all-plain, all-plain-stay}
+use Rattle.demands.proofs.NamedSets.{isSet, isSetBySequence}
 
 -- no variable symbol, and no ampersand left over, in a name or operation field
 abbrev pub hasNoSymbol : Bytes → Bool
@@ -76,23 +77,6 @@ unfolding isCopied
 never-copied f e =
     ap (λ (s : Bool). hasNoSymbol (f .name) && (hasNoSymbol (f .operation) && (every isPlain (lexed true (f .operand)) && not s))) e
     ∙ and-never (hasNoSymbol (f .name)) (hasNoSymbol (f .operation)) (every isPlain (lexed true (f .operand)))
-
--- a SET statement; one that a sequence symbol names
-abbrev pub isSet : Statement → Bool
-isSet macro = false
-isSet mend = false
-isSet mexit = false
-isSet (local k) = false
-isSet (global k) = false
-isSet (set k) = true
-isSet aif = false
-isSet ago = false
-isSet anop = false
-isSet actr = false
-isSet model = false
-
-abbrev pub isSetBySequence : Bytes → Bool
-isSetBySequence l = isSet (statementOn l) && isSequence (statementFields l .name)
 
 module _ (r : Renaming) (f g : Fields) where
   same-copied : RenamedName r (f .name) (g .name) → RenamedText r false (f .operation) (g .operation) → RenamedText r true (f .operand) (g .operand)

@@ -1,20 +1,16 @@
--- A SET line that a sequence symbol names is refused by translation, but has a place in `resolvedLibrary`, its name as it is written: so the relation, without
--- acceptance, holds of two libraries whose decks differ.
-use mathlib.Core.Path.{_≡_, refl, ap, sym, _∙_}
-use mathlib.Core.Bool.{Bool, true, false, false≢true}
-use mathlib.Core.List.{List, [], _∷_}
+-- A SET line that a sequence symbol names is refused by translation, but `resolvedLibrary` has it, with its name as it is written. So there are two libraries,
+-- both refused, that differ only by a renaming and have different decks.
+use mathlib.Core.Path.{_≡_, refl, ap}
+use mathlib.Core.Bool.{false≢true}
+use mathlib.Core.List.{[], _∷_}
 use Rattle.text.specs.Bytes.{Bytes, bytes, same}
-use Rattle.text.specs.Words.{placeAmong}
-use Rattle.rules.specs.Choice.{choose, any}
-use Rattle.rules.specs.Fields.{linesOf}
 use Rattle.rules.specs.Faults.{faulty}
 use Rattle.rules.proofs.Computing.{answers, judged}
 use Rattle.deck.specs.Coding as Coding
 use Rattle.deck.specs.Coders as Coders
 use Rattle.deck.specs.Slots as Slots
-use Rattle.deck.specs.Slots.{resolvedLibrary}
 use Rattle.deck.specs.Translation.{deckOf}
-use Rattle.demands.specs.Renaming.{Renaming, OneForOne, keptNames, Renamed, RenamedLines, none, outside, definition, RenamedSequence, RenamedName, sequence, RenamedFields, RenamedLine, statement, RenamedBody, last, _then_, plain}
+use Rattle.demands.specs.Renaming.{Renaming, sequence, plain, statement, last, _then_, none, definition, Renamed}
 use Rattle.demands.proofs.Exchanged.{exchanged, exchanged-one}
 
 abbrev before : Bytes
@@ -46,3 +42,11 @@ it-is-renamed =
 decks-differ : deckOf after ≡ deckOf before → ⊥
 unfolding answers deckOf Coding.byte Coding.two Coding.four Coding.pair Coding.via Coding.putAll Coding.listOf Coders.encoded Coders.contents Coders.macro Coders.string Coders.partsOf Coders.flag Coders.flagCode Coders.line Coders.putLineBy Coders.field Coders.lexeme Coders.lexCode Coders.setCode Slots.resolvedLibrary Slots.deckIn Slots.deckMacro Slots.resolvedLine
 decks-differ e = false≢true (ap (same (deckOf before)) e)
+
+-- so acceptance, or that no SET line is named so, is needed
+pub not-of-all-libraries : ((library library′ : Bytes) → Renamed library library′ → deckOf library′ ≡ deckOf library) → ⊥
+not-of-all-libraries h = decks-differ (h before after it-is-renamed)
+
+pub both-refused : (judged before ≡ faulty 4 3) × (judged after ≡ faulty 4 3)
+unfolding judged
+both-refused = (refl, refl)
