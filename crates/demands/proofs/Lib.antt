@@ -5,3 +5,4 @@ pub mod SameRead
 pub mod SameNames
 pub mod SameDeck
 pub mod SetBySequence
+pub mod Tested

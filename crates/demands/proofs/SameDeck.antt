@@ -18,6 +18,7 @@ use Rattle.deck.specs.Slots.{resolved, resolvedLine, deckMacro, deckIn, resolve
 use Rattle.deck.specs.Coders.{encoded}
 use Rattle.deck.specs.Translation.{deckOf}
 use Rattle.deck.proofs.Lists.{map-map}
+use Rattle.deck.proofs.Same.{globalsIn}
 use Rattle.demands.specs.Renaming.{Renaming, Proper, RenamedLine, remark, statement, RenamedPrototype, RenamedBody, last, _then_, RenamedLines, none, outside, definition, Renamed}
 use Rattle.demands.proofs.NamedSets.{isSetBySequence, SetsNamed, accepted-sets-named}
 use Rattle.demands.proofs.SameRead.{hasNoSymbol, same-word, fields-of, read-renamed}
@@ -180,6 +181,10 @@ deck-same {ms} {ns} h k =
       globals = seconds (g i);
       macros = (ap (λ (gs : List (Bytes × Set)). map (deckMacro gs) (map reading ns)) g ∙ macros-same (globalsOf [] (namesOf ms)) h k) i;
     }
+
+-- the globals keep their names and their order
+pub same-globals : (library library′ : Bytes) → Renamed library library′ → globalsIn library′ ≡ globalsIn library
+same-globals library library′ h = globals-same (renamed-macros h) []
 
 -- where no SET line is named by a sequence symbol, a renaming changes nothing in the deck
 pub same-where-sets-named : (library library′ : Bytes) → All SetsNamed (macrosFrom outer (linesOf library)) → Renamed library library′
