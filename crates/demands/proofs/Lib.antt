@@ -6,3 +6,4 @@ pub mod SameNames
 pub mod SameDeck
 pub mod SetBySequence
 pub mod Tested
+pub mod RenamingExample
