@@ -4,6 +4,7 @@ pub mod Exchanged
 pub mod SameRead
 pub mod SameNames
 pub mod SameDeck
+pub mod Computed
 pub mod SetBySequence
 pub mod Tested
 pub mod RenamingExample

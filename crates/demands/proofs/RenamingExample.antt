@@ -1,18 +1,16 @@
--- A renaming, computed: two macros, each by a renaming of its own. And three changes that are no renaming.
-use mathlib.Core.Path.{_≡_, refl, ap}
-use mathlib.Core.Bool.{false≢true}
+-- A renaming, computed: two macros, each by a renaming of its own. And changes that are no renaming.
+use mathlib.Core.Path.{_≡_, refl, ap, sym, _∙_}
+use mathlib.Core.Bool.{true, false, false≢true}
 use mathlib.Core.List.{List, [], _∷_, _++_}
 use Rattle.text.specs.Bytes.{Bytes, bytes, same}
 use Rattle.rules.specs.Calls.{isAmong}
 use Rattle.rules.specs.Faults.{accepted}
 use Rattle.rules.proofs.Lossless.{withNewlines}
 use Rattle.rules.proofs.Computing.{answers, judged}
-use Rattle.deck.specs.Coding as Coding
-use Rattle.deck.specs.Coders as Coders
-use Rattle.deck.specs.Slots as Slots
 use Rattle.deck.specs.Translation.{deckOf}
 use Rattle.demands.specs.Renaming.{Renaming, keptNames, none, outside, definition, Renamed}
-use Rattle.demands.proofs.Exchanged.{exchanged, exchanged-one, after-one}
+use Rattle.demands.proofs.Computed.{deckComputed}
+use Rattle.demands.proofs.Exchanged.{same-itself, exchanged, exchanged-one, after-one}
 use Rattle.demands.proofs.SameDeck.{same-globals, same-deck-accepted}
 use Rattle.demands.proofs.Tested.{sameLexeme, sameAll, samePair, proper-kept, isRenamedText, isRenamedSequence, isRenamedName, isRenamedBranch, isRenamedOperand, areRenamedFields, isRenamedLine, isRenamedPrototype, isRenamedBody, body-tested, prototype-tested}
 
@@ -93,3 +91,44 @@ both-accepted = (refl, refl)
 pub same-decks : deckOf after ≡ deckOf before
 unfolding judged
 same-decks = same-deck-accepted before after (both-accepted .0) it-is-renamed
+
+-- ---- changes that are no renaming: the relation holds of none of them
+
+abbrev oneMacro : List Bytes → Bytes
+oneMacro ls = withNewlines (bytes " MACRO" ∷ (ls ++ (bytes " MEND" ∷ [])))
+
+-- where the one library is accepted and the decks differ
+no-renaming : (library library′ : Bytes) → judged library ≡ accepted → same (deckOf library) (deckOf library′) ≡ false → Renamed library library′ → ⊥
+unfolding judged
+no-renaming library library′ a d h = false≢true (sym d ∙ (ap (same (deckOf library)) (same-deck-accepted library library′ a h) ∙ same-itself (deckOf library)))
+
+-- one of two places where the name stands keeps it
+abbrev used : Bytes → Bytes → Bytes
+used p a = oneMacro (p ∷ a ∷ [])
+
+pub one-place-only : Renamed (used (bytes " M &A") (bytes " DC &A,&A")) (used (bytes " M &B") (bytes " DC &B,&A")) → ⊥
+unfolding deckComputed judged
+one-place-only = no-renaming (used (bytes " M &A") (bytes " DC &A,&A")) (used (bytes " M &B") (bytes " DC &B,&A")) refl refl
+
+-- two names become one
+pub two-into-one : Renamed (used (bytes " M &A,&B") (bytes " DC &A,&B")) (used (bytes " M &A,&A") (bytes " DC &A,&A")) → ⊥
+unfolding deckComputed judged
+two-into-one = no-renaming (used (bytes " M &A,&B") (bytes " DC &A,&B")) (used (bytes " M &A,&A") (bytes " DC &A,&A")) refl refl
+
+-- a keyword gets another name
+pub keyword-renamed : Renamed (used (bytes " M &K=1") (bytes " DC &K")) (used (bytes " M &J=1") (bytes " DC &J")) → ⊥
+unfolding deckComputed judged
+keyword-renamed = no-renaming (used (bytes " M &K=1") (bytes " DC &K")) (used (bytes " M &J=1") (bytes " DC &J")) refl refl
+
+-- a name in a remark is changed
+pub remark-changed : Renamed (used (bytes " M &A") (bytes "* &A")) (used (bytes " M &B") (bytes "* &B")) → ⊥
+unfolding deckComputed judged
+remark-changed = no-renaming (used (bytes " M &A") (bytes "* &A")) (used (bytes " M &B") (bytes "* &B")) refl refl
+
+-- a global gets another name: the deck of this one macro would be the same, but a macro elsewhere may declare it
+abbrev sharing : Bytes → Bytes → Bytes
+sharing d s = oneMacro (bytes " M" ∷ d ∷ s ∷ [])
+
+pub global-renamed : Renamed (sharing (bytes " GBLA &G") (bytes "&G SETA 1")) (sharing (bytes " GBLA &H") (bytes "&H SETA 1")) → ⊥
+unfolding answers
+global-renamed h = false≢true (ap (isAmong (bytes "G")) (same-globals (sharing (bytes " GBLA &G") (bytes "&G SETA 1")) (sharing (bytes " GBLA &H") (bytes "&H SETA 1")) h))

@@ -6,11 +6,9 @@ use mathlib.Core.List.{[], _∷_}
 use Rattle.text.specs.Bytes.{Bytes, bytes, same}
 use Rattle.rules.specs.Faults.{faulty}
 use Rattle.rules.proofs.Computing.{answers, judged}
-use Rattle.deck.specs.Coding as Coding
-use Rattle.deck.specs.Coders as Coders
-use Rattle.deck.specs.Slots as Slots
 use Rattle.deck.specs.Translation.{deckOf}
 use Rattle.demands.specs.Renaming.{Renaming, sequence, plain, statement, last, _then_, none, definition, Renamed}
+use Rattle.demands.proofs.Computed.{deckComputed}
 use Rattle.demands.proofs.Exchanged.{exchanged, exchanged-one}
 
 abbrev before : Bytes
@@ -40,7 +38,7 @@ it-is-renamed =
     none
 
 decks-differ : deckOf after ≡ deckOf before → ⊥
-unfolding answers deckOf Coding.byte Coding.two Coding.four Coding.pair Coding.via Coding.putAll Coding.listOf Coders.encoded Coders.contents Coders.macro Coders.string Coders.partsOf Coders.flag Coders.flagCode Coders.line Coders.putLineBy Coders.field Coders.lexeme Coders.lexCode Coders.setCode Slots.resolvedLibrary Slots.deckIn Slots.deckMacro Slots.resolvedLine
+unfolding deckComputed
 decks-differ e = false≢true (ap (same (deckOf before)) e)
 
 -- so acceptance, or that no SET line is named so, is needed
