@@ -1,8 +1,7 @@
 -- Two names exchanged: one for one, as is one renaming after another. Every renaming of finitely many names is made of such.
 use mathlib.Core.Path.{_≡_, refl, ap, sym, _∙_}
-use mathlib.Core.Bool.{Bool, true, false}
+use mathlib.Core.Bool.{true}
 use mathlib.Core.List.{[], _∷_}
-use lib.Dec.{eqb}
 use borrow.Author.Tests.{eq-eqb}
 use Rattle.text.specs.Bytes.{Bytes, same}
 use Rattle.text.proofs.Same.{same-is}

@@ -7,7 +7,7 @@ use lib.Dec.{eqb, ltb}
 use lib.ListN.{length, take, drop}
 use Rattle.text.specs.Bytes.{Bytes}
 use Rattle.rules.specs.Choice.{choose, passed, every, onFirst}
-use Rattle.rules.specs.Lexemes.{apostrophe, opening, closing, comma, equals, Lex, byte, mark, ref, lone, byteOf, isPlain, lexed, unlexed, Inside, outside, enters, isBare}
+use Rattle.rules.specs.Lexemes.{apostrophe, opening, closing, comma, equals, Lex, byte, mark, ref, lone, byteOf, isPlain, Inside, outside, enters, isBare}
 use Rattle.rules.specs.Statement.{mapLex, pairsFirst, startsOpen, conditionEnd}
 use Rattle.rules.specs.Calls.{parts, divided, equalsAt, hasEquals}
 use Rattle.rules.specs.Library.{startSymbol, startSymbols, positionalNames}
@@ -77,7 +77,7 @@ module _ {R S : Type 0} (f : R → S) where
   map-parts [] i = refl
   map-parts (x ∷ l) i =
       (λ j. choose (same-bare comma i x j) ([] ∷ map-parts l i j)
-          (onFirst (mapLex f x) ((ap (λ k. parts k (map (mapLex f) l)) (same-enters i x) ∙ map-parts l (enters i x)) j)))
+      (onFirst (mapLex f x) ((ap (λ k. parts k (map (mapLex f) l)) (same-enters i x) ∙ map-parts l (enters i x)) j)))
       ∙ (ap (choose (isBare comma i x) ([] ∷ map (map (mapLex f)) (parts i l))) (map-first x (parts (enters i x) l))
       ∙ sym (into (map (map (mapLex f))) (isBare comma i x) ([] ∷ parts i l) (onFirst x (parts (enters i x) l))))
 

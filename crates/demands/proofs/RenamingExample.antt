@@ -77,7 +77,10 @@ it-is-renamed =
     (definition {b = body₁} {c = newBody₁} {ls = bytes " MACRO" ∷ (prototype₂ ∷ (body₂ ++ []))} {ms = bytes " MACRO" ∷ (newPrototype₂ ∷ (newBody₂ ++ []))}
     naming₁ refl (prototype-tested naming₁ prototype₁ newPrototype₁ refl) (body-tested naming₁ body₁ newBody₁ refl)
     (proper-kept
-    (after-one (after-one (after-one (exchanged-one (bytes "A") (bytes "B")) (exchanged-one (bytes "I") (bytes "COUNTER"))) (exchanged-one (bytes "UNUSED") (bytes "U"))) (exchanged-one (bytes "N") (bytes "NAME")))
+    (after-one
+    (after-one
+    (after-one (exchanged-one (bytes "A") (bytes "B")) (exchanged-one (bytes "I") (bytes "COUNTER"))) (exchanged-one (bytes "UNUSED") (bytes "U")))
+    (exchanged-one (bytes "N") (bytes "NAME")))
     (after-one (exchanged-one (bytes "T") (bytes "AGAIN77")) (exchanged-one (bytes "X") (bytes "T"))) refl)
     (definition {b = body₂} {c = newBody₂} {ls = []} {ms = []}
     naming₂ refl (prototype-tested naming₂ prototype₂ newPrototype₂ refl) (body-tested naming₂ body₂ newBody₂ refl)

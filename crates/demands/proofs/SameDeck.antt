@@ -1,6 +1,7 @@
 -- Demand 3: libraries that differ only by a renaming have the same deck, byte for byte.
+use Prim.Native.Nat.{ℕ}
 use mathlib.Core.Path.{_≡_, refl, ap, sym, _∙_, subst}
-use mathlib.Core.Bool.{Bool, true, false, not}
+use mathlib.Core.Bool.{true, false, not}
 use mathlib.Core.List.{List, [], _∷_, _++_, map, append-assoc}
 use lib.ListN.{length, length-map}
 use Rattle.text.specs.Bytes.{Bytes, bytes, same}
@@ -9,14 +10,14 @@ use Rattle.rules.specs.Choice.{choose, every, any}
 use Rattle.rules.specs.Lexemes.{Lex, byte, mark, ref, lone, byteOf, isPlain, isMark, after, fieldStart, follows, marked, symbols, lexed}
 use Rattle.rules.specs.Fields.{linesOf, Fields, fieldsOf, isEmpty}
 use Rattle.rules.specs.Statement.{Set, Does, passes, ends, exits, text, models, sets, branchesIf, branches, counts, Line, mapLex, mapDoes, mapLine, read}
-use Rattle.rules.specs.Library.{Macro, outer, atPrototype, inBody, macrosFrom, operationOf, isMacro, isMend, Names, namesIn, seconds, withGlobals, globalsOf, lineNamed}
+use Rattle.rules.specs.Library.{Macro, outer, inBody, macrosFrom, operationOf, isMacro, isMend, Names, namesIn, seconds, withGlobals, globalsOf, lineNamed}
 use Rattle.rules.specs.ByLines.{Reading, reading}
 use Rattle.rules.specs.Faults.{accepted, verdict}
 use Rattle.rules.proofs.Choices.{chosen, passed-over}
 use Rattle.rules.proofs.Logic.{All, or-left, or-right}
 use Rattle.deck.specs.Slots.{resolved, resolvedLine, deckMacro, deckIn, resolvedLibrary}
 use Rattle.deck.specs.Coders.{encoded}
-use Rattle.deck.specs.Translation.{deckOf}
+use Rattle.deck.specs.Translation.{deckOf, translatedBy, translated}
 use Rattle.deck.proofs.Lists.{map-map}
 use Rattle.deck.proofs.Same.{globalsIn}
 use Rattle.demands.specs.Renaming.{Renaming, Proper, RenamedLine, remark, statement, RenamedPrototype, RenamedBody, last, _then_, RenamedLines, none, outside, definition, Renamed}
@@ -168,7 +169,8 @@ globals-same (one-more {p = p} {b = b} {ns = ns} r proto body proper h) known =
     ap (λ (g : List (Bytes × Set)). globalsOf (withGlobals known g) (namesOf ns)) (same-declared-globals r proto body proper)
     ∙ globals-same h (withGlobals known (namesIn p b .globals))
 
-macros-same : (gs : List (Bytes × Set)) {ms ns : List Macro} → RenamedMacros ms ns → All SetsNamed ms → map (deckMacro gs) (map reading ns) ≡ map (deckMacro gs) (map reading ms)
+macros-same : (gs : List (Bytes × Set)) {ms ns : List Macro} → RenamedMacros ms ns → All SetsNamed ms
+    → map (deckMacro gs) (map reading ns) ≡ map (deckMacro gs) (map reading ms)
 macros-same gs no-more k = refl
 macros-same gs (one-more r proto body proper h) k = λ i. macro-same r proto body proper gs (k .0) i ∷ macros-same gs h (k .1) i
 
@@ -199,3 +201,9 @@ same-library-accepted library library′ e h = same-where-sets-named library lib
 pub same-deck-accepted : (library library′ : Bytes) → verdict library ≡ accepted → Renamed library library′ → deckOf library′ ≡ deckOf library
 unfolding deckOf
 same-deck-accepted library library′ e h = ap encoded (same-library-accepted library library′ e h)
+
+-- where both are accepted, translation answers the same in a deck buffer of any size
+pub same-translation : (library library′ : Bytes) → verdict library ≡ accepted → verdict library′ ≡ accepted → Renamed library library′
+    → (room : ℕ) → translated library′ room ≡ translated library room
+unfolding translated
+same-translation library library′ e e′ h room = λ i. translatedBy ((e′ ∙ sym e) i) (same-deck-accepted library library′ e h i) room

@@ -1,8 +1,8 @@
 -- The names of a renamed macro are its names renamed, at the same places: they have the same slots, and its lines the same numbers.
-use Prim.Native.Nat.{ℕ, zero, suc, _<_}
+use Prim.Native.Nat.{suc, _<_}
 use native.Mathlib.Nat.{le-of-suc-le-suc, not-suc-le-zero}
 use mathlib.Core.Path.{_≡_, refl, ap, sym, _∙_, subst}
-use mathlib.Core.Bool.{Bool, true, false, _&&_, _||_}
+use mathlib.Core.Bool.{Bool, true, false, _&&_}
 use mathlib.Core.List.{List, [], _∷_, _++_, map}
 use lib.Dec.{ltb}
 use lib.ListN.{length, length-map, drop}
@@ -18,10 +18,10 @@ use Rattle.rules.specs.Calls.{divided}
 use Rattle.rules.specs.Library.{startSymbol, startSymbols, operandParts, positionalNames, ofKind, localsBy, globalsBy, localsOn, globalsOn, declaredIn, Names, namesIn, firsts, seconds, parameterNames, isNamed, lineNamed}
 use Rattle.rules.specs.ByLines.{ownNames}
 use Rattle.rules.proofs.Choices.{by, chosen, passed-over}
-use Rattle.rules.proofs.Logic.{any-first, any-later, any-in-front, any-behind}
+use Rattle.rules.proofs.Logic.{clash, any-first, any-later, any-in-front, any-behind}
 use Rattle.rules.proofs.Said.{remark-fields}
-use Rattle.deck.specs.Slots.{Slot, own, shared, list, index, section, nowhere, systemSlot, resolved}
-use Rattle.demands.specs.Renaming.{Renaming, OneForOne, keptNames, Proper, RenamedText, RenamedSequence, RenamedName, sequence, plain, RenamedOperand, RenamedFields, RenamedLine, remark, statement, RenamedPrototype, RenamedBody, last, _then_}
+use Rattle.deck.specs.Slots.{own, shared, list, index, section, nowhere, systemSlot, resolved}
+use Rattle.demands.specs.Renaming.{Renaming, OneForOne, keptNames, Proper, RenamedText, RenamedName, sequence, plain, RenamedOperand, RenamedLine, remark, statement, RenamedPrototype, RenamedBody, last, _then_}
 use Rattle.demands.proofs.Relabelled.{map-append, map-divided, map-start, map-starts, map-positionals}
 use Rattle.demands.proofs.Exchanged.{same-itself}
 use Rattle.demands.proofs.SameRead.{same-statement, fields-of}
@@ -33,8 +33,7 @@ module _ (f : Bytes → Bytes) (one : OneForOne f) where
   pub same-renamed : (m n : Bytes) → same (f m) (f n) ≡ same m n
   same-renamed m n =
       by (same m n) (λ e. ap (λ k. same (f k) (f n)) (same-is m n e) ∙ (same-itself (f n) ∙ sym e))
-      (λ e. by (same (f m) (f n)) (λ t. ap (λ k. same (f k) (f n)) (one m n (same-is (f m) (f n) t)) ∙ (same-itself (f n) ∙ (sym (same-itself n) ∙ ap (λ k. same k n) (sym (one m n (same-is (f m) (f n) t))))))
-      (λ t. t ∙ sym e))
+      (λ e. by (same (f m) (f n)) (λ t. clash (ap (λ k. same k n) (one m n (same-is (f m) (f n) t)) ∙ same-itself n) e) (λ t. t ∙ sym e))
 
   pub place-renamed : (ns : List Bytes) (n : Bytes) → placeAmong (map f ns) (f n) ≡ placeAmong ns n
   place-renamed [] n = refl

@@ -1,23 +1,23 @@
 -- A renamed line says the same, by its new names.
-use Prim.Native.Nat.{ℕ, zero, suc}
-use mathlib.Core.Path.{_≡_, refl, ap, sym, _∙_, subst}
+use Prim.Native.Nat.{suc}
+use mathlib.Core.Path.{_≡_, refl, ap, sym, _∙_}
 use mathlib.Core.Logic.{_⊎_, inl, inr}
 use mathlib.Core.Bool.{Bool, true, false, _&&_, not}
 use mathlib.Core.List.{List, [], _∷_, _++_, map}
-use lib.ListN.{length, take, drop, getD}
+use lib.ListN.{length, drop, getD}
 use Rattle.text.specs.Bytes.{Bytes, same}
 use Rattle.text.specs.Characters.{letter, digit, letterOrDigit}
 use Rattle.text.specs.Words.{words, placeAmong, wordNumber}
 use Rattle.text.proofs.Same.{same-is}
 use Rattle.rules.specs.Choice.{choose, every}
-use Rattle.rules.specs.Lexemes.{Lex, byteOf, isPlain, isMark, after, fieldStart, follows, marked, symbols, lexed, unlexed, isSequence}
+use Rattle.rules.specs.Lexemes.{byteOf, isPlain, isMark, after, fieldStart, follows, marked, symbols, lexed, unlexed, isSequence}
 use Rattle.rules.specs.Fields.{Fields, fieldsOf, statementFields, noFields, isRemark}
-use Rattle.rules.specs.Statement.{Statement, macro, mend, mexit, local, global, set, aif, ago, anop, actr, model, statements, statementOf, passes, text, models, sets, branchesIf, branches, counts, Line, mapLex, mapDoes, mapLine, conditionEnd, targetIn, isCopied, doing, modelOf, says, read}
+use Rattle.rules.specs.Statement.{Statement, macro, mend, mexit, local, global, set, aif, ago, anop, actr, model, statements, statementOf, passes, text, models, sets, branchesIf, branches, counts, Line, mapLex, mapDoes, mapLine, targetIn, isCopied, doing, modelOf, says, read}
 use Rattle.rules.proofs.Choices.{by, chosen, passed-over, and-left, and-right}
-use Rattle.rules.proofs.Logic.{clash, then-not}
+use Rattle.rules.proofs.Logic.{clash}
 use Rattle.rules.proofs.Lossless.{lexed-back, fields-back}
 use Rattle.rules.proofs.Said.{remark-says, statement-says}
-use Rattle.demands.specs.Renaming.{Renaming, RenamedText, RenamedSequence, RenamedName, sequence, plain, RenamedBranch, RenamedOperand, RenamedFields, RenamedLine, remark, statement}
+use Rattle.demands.specs.Renaming.{Renaming, RenamedText, RenamedSequence, RenamedName, sequence, plain, RenamedOperand, RenamedFields, RenamedLine, remark, statement}
 use Rattle.demands.proofs.Relabelled.{same-all-plain, all-plain-stay}
 use Rattle.demands.proofs.NamedSets.{isSet, isSetBySequence}
 

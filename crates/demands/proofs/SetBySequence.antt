@@ -25,14 +25,17 @@ unfolding answers exchanged
 it-is-renamed =
     definition {b = bytes ".A SETA 1" ∷ bytes " MEND" ∷ []} {c = bytes ".B SETA 1" ∷ bytes " MEND" ∷ []} {ls = []} {ms = []} naming refl
     (record { no-remark = refl; no-remark₂ = refl; name = refl; gap = refl; operation = refl; gap₂ = refl; operand = refl; keywords = refl; remarks = refl })
-    (_then_ (refl, statement refl refl (record {
-      name = sequence (record { was = refl; now = refl; renamed = refl });
-      gap = refl;
-      operation = refl;
-      gap₂ = refl;
-      operand = refl;
-      remarks = refl;
-    }))
+    (_then_ (
+      refl,
+      statement refl refl (record {
+        name = sequence (record { was = refl; now = refl; renamed = refl });
+        gap = refl;
+        operation = refl;
+        gap₂ = refl;
+        operand = refl;
+        remarks = refl;
+      }),
+    )
     (last refl (statement refl refl (record { name = plain refl refl refl; gap = refl; operation = refl; gap₂ = refl; operand = refl; remarks = refl }))))
     (record { symbols-one = λ a b e. e; sequences-one = exchanged-one (bytes "A") (bytes "B"); kept = λ n k. refl })
     none

@@ -1,5 +1,4 @@
 -- The relation as a test, for renamings that are given: where the test holds, so does the relation.
-use Prim.Native.Nat.{ℕ}
 use mathlib.Core.Path.{_≡_, refl, ap, sym, _∙_}
 use mathlib.Core.Bool.{Bool, true, false, false≢true, _&&_, not}
 use mathlib.Core.List.{List, [], _∷_, map}
@@ -12,10 +11,10 @@ use Rattle.rules.specs.Choice.{choose, every, any}
 use Rattle.rules.specs.Lexemes.{period, Lex, byte, mark, ref, lone, lexed, unlexed, isSequence}
 use Rattle.rules.specs.Fields.{isRemark, Fields, fieldsOf}
 use Rattle.rules.specs.Statement.{Statement, macro, mend, mexit, local, global, set, aif, ago, anop, actr, model, statementOf, mapLex, conditionEnd}
-use Rattle.rules.specs.Library.{isMend, Names, namesIn, operandParts, keywordNames}
+use Rattle.rules.specs.Library.{isMend, Names, operandParts, keywordNames}
 use Rattle.rules.proofs.Choices.{by, chosen, passed-over, and-left, and-right}
 use Rattle.rules.proofs.Logic.{else-so}
-use Rattle.demands.specs.Renaming.{Renaming, OneForOne, keptNames, Proper, RenamedText, RenamedSequence, RenamedName, sequence, plain, RenamedBranch, RenamedOperand, RenamedFields, RenamedLine, remark, statement, RenamedPrototype, RenamedBody, last, _then_}
+use Rattle.demands.specs.Renaming.{Renaming, OneForOne, keptNames, Proper, RenamedText, RenamedSequence, RenamedName, sequence, plain, RenamedOperand, RenamedFields, RenamedLine, remark, statement, RenamedPrototype, RenamedBody, last, _then_}
 
 -- ---- equality as a test
 
@@ -212,7 +211,8 @@ module _ (r : Renaming) where
   body-tested (l ∷ []) (m ∷ (n ∷ ms)) e = absurd (false≢true e)
   body-tested (l ∷ (k ∷ ls)) (m ∷ ms) e =
       let e₂ = and-right (not (isMend l)) (isRenamedLine l m && isRenamedBody (k ∷ ls) ms) e in
-      _then_ (not-true (isMend l) (and-left (not (isMend l)) _ e), line-tested l m (and-left (isRenamedLine l m) _ e₂)) (body-tested (k ∷ ls) ms (and-right (isRenamedLine l m) _ e₂))
+      _then_ (not-true (isMend l) (and-left (not (isMend l)) _ e), line-tested l m (and-left (isRenamedLine l m) _ e₂))
+      (body-tested (k ∷ ls) ms (and-right (isRenamedLine l m) _ e₂))
 
   pub prototype-tested : (p q : Bytes) → isRenamedPrototype p q ≡ true → RenamedPrototype r p q
   unfolding isRenamedPrototype
