@@ -1,0 +1,10 @@
+pub mod NamedSets
+pub mod Relabelled
+pub mod Exchanged
+pub mod SameRead
+pub mod SameNames
+pub mod SameDeck
+pub mod Computed
+pub mod SetBySequence
+pub mod Tested
+pub mod RenamingExample
