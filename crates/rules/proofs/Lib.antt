@@ -1,5 +1,6 @@
 pub mod Choices
 pub mod Logic
+pub mod Scanning
 pub mod Computing
 pub mod Worked
 pub mod Example

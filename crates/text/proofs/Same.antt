@@ -1,5 +1,5 @@
 -- Laws of `same`: it is equality, and what one more byte decides. Assumes nothing.
-use Prim.Native.Nat.{ℕ, _+_, _≤_, _<_}
+use Prim.Native.Nat.{ℕ, suc, _+_, _≤_, _<_}
 use native.Mathlib.Nat.{le-of-suc-le-suc, not-suc-le-zero}
 use native.Mathlib.Numerals.{add-one}
 use mathlib.Core.Path.{_≡_, refl, _∙_, ap}
@@ -22,6 +22,12 @@ shorter [] [] h = absurd (not-suc-le-zero h)
 shorter [] (d ∷ t) h = refl
 shorter (c ∷ s) [] h = refl
 shorter (c ∷ s) (d ∷ t) h = rw (shorter s t (le-of-suc-le-suc h)) (and-false (eqb c d))
+
+pub other-length : (s t : Bytes) → (length s ≡ length t → ⊥) → same s t ≡ false
+other-length [] [] h = absurd (h refl)
+other-length [] (d ∷ t) h = refl
+other-length (c ∷ s) [] h = refl
+other-length (c ∷ s) (d ∷ t) h = rw (other-length s t (λ e. h (ap suc e))) (and-false (eqb c d))
 
 -- two texts, both read from place i on
 module _ (s t : Bytes) (i : ℕ) where
