@@ -1,0 +1,28 @@
+-- Laws of lists: a fact of each element, one map after another, an element of a map. Assumes nothing.
+use Prim.Native.Nat.{ℕ, zero, suc, _+_, _<_}
+use native.Mathlib.Omega.{arith}
+use mathlib.Core.Path.{_≡_, refl, ap, _∙_}
+use mathlib.Core.List.{List, [], _∷_, _++_, map}
+use lib.ListN.{length, getD, replicate}
+
+abbrev pub All : {A : Type 0} → (A → Type 0) → List A → Type 0
+All P [] = Unit {0}
+All P (a ∷ l) = P a × All P l
+
+pub all-append : {A : Type 0} (P : A → Type 0) (s t : List A) → All P s → All P t → All P (s ++ t)
+all-append P [] t h k = k
+all-append P (a ∷ s) t h k = (h .0, all-append P s t (h .1) k)
+
+pub map-map : {A B C : Type 0} (f : A → B) (g : B → C) {h : A → C} → ((a : A) → g (f a) ≡ h a) → (l : List A) → map g (map f l) ≡ map h l
+map-map f g e [] = refl
+map-map f g e (a ∷ l) = λ i. e a i ∷ map-map f g e l i
+
+pub getD-map : {A B : Type 0} (f : A → B) (l : List A) (i : ℕ) (d : A) → getD (map f l) i (f d) ≡ f (getD l i d)
+getD-map f [] i d = refl
+getD-map f (a ∷ l) zero d = refl
+getD-map f (a ∷ l) (suc i) d = getD-map f l i d
+
+-- a map that gives the same for every element
+pub map-constant : {A B : Type 0} (b : B) (l : List A) → map (λ a. b) l ≡ replicate (length l) b
+map-constant b [] = refl
+map-constant b (a ∷ l) = ap (b ∷_) (map-constant b l)

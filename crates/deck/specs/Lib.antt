@@ -1,0 +1,6 @@
+pub mod Slots
+pub mod Coding
+pub mod Coders
+pub mod Good
+pub mod ByDeck
+pub mod Translation
