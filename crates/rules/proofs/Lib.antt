@@ -11,7 +11,9 @@ pub mod Formed
 pub mod Ends
 pub mod Closed
 pub mod Accepted
+pub mod Walked
 pub mod Said
+pub mod Prototypes
 pub mod Texts
 pub mod Counting
 pub mod Symbols
