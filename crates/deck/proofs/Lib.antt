@@ -1,3 +1,5 @@
 pub mod Lists
 pub mod Coding
 pub mod Titles
+pub mod Macros
+pub mod Headers

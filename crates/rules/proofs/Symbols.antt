@@ -94,7 +94,7 @@ module _ {X : Type 0} where
   length-seconds [] = refl
   length-seconds (a ∷ s) = ap suc (length-seconds s)
 
-getD-mapped : {A B : Type 0} (f : A → B) (l : List A) (i : ℕ) (d : A) (e : B) → i < length l → getD (map f l) i e ≡ f (getD l i d)
+pub getD-mapped : {A B : Type 0} (f : A → B) (l : List A) (i : ℕ) (d : A) (e : B) → i < length l → getD (map f l) i e ≡ f (getD l i d)
 getD-mapped f [] i d e h = absurd (not-suc-le-zero h)
 getD-mapped f (a ∷ l) zero d e h = refl
 getD-mapped f (a ∷ l) (suc i) d e h = getD-mapped f l i d e (le-of-suc-le-suc h)
