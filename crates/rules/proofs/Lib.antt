@@ -14,6 +14,8 @@ pub mod Accepted
 pub mod Walked
 pub mod Said
 pub mod Prototypes
+pub mod Pieces
+pub mod Defaults
 pub mod Texts
 pub mod Counting
 pub mod Symbols
