@@ -3,3 +3,4 @@ pub mod Coding
 pub mod Titles
 pub mod Macros
 pub mod Headers
+pub mod Keywords
