@@ -4,3 +4,4 @@ pub mod Titles
 pub mod Macros
 pub mod Headers
 pub mod Keywords
+pub mod Lines
