@@ -5,3 +5,4 @@ pub mod Macros
 pub mod Headers
 pub mod Keywords
 pub mod Lines
+pub mod Limits

@@ -16,7 +16,7 @@ use Rattle.rules.proofs.Logic.{All}
 use Rattle.rules.proofs.Accepted.{Faultless, Stands, first-line, refused, around, Body, last, line}
 
 -- globals one line after another are those of the lines together
-with-append : (gs s t : List (Bytes × Set)) → withGlobals gs (s ++ t) ≡ withGlobals (withGlobals gs s) t
+pub with-append : (gs s t : List (Bytes × Set)) → withGlobals gs (s ++ t) ≡ withGlobals (withGlobals gs s) t
 unfolding withGlobals
 with-append gs [] t = refl
 with-append gs (g ∷ s) t = with-append (choose (isAmong (g .0) gs) gs (gs ++ (g ∷ []))) s t
