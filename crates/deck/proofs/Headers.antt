@@ -36,7 +36,7 @@ titles-named library e = each-macro library e (λ m. isMacroName (m .title) ≡ 
 
 -- ---- parameters
 
-one-at-most : (x : List (Lex Bytes)) → length (startSymbol x) ≤ 1
+pub one-at-most : (x : List (Lex Bytes)) → length (startSymbol x) ≤ 1
 unfolding startSymbol
 one-at-most [] = omega arith
 one-at-most (byte c ∷ x) = omega arith

@@ -6,3 +6,5 @@ pub mod Headers
 pub mod Keywords
 pub mod Lines
 pub mod Limits
+pub mod SlotKinds
+pub mod Library

@@ -101,7 +101,7 @@ getD-mapped f (a ∷ l) (suc i) d e h = getD-mapped f l i d e (le-of-suc-le-suc 
 
 -- ---- the four cases
 
-system-kind : (l : Level) (st : Store) (n : Bytes) → systemNamed l st n .kind ≡ systemKind n
+pub system-kind : (l : Level) (st : Store) (n : Bytes) → systemNamed l st n .kind ≡ systemKind n
 unfolding systemNamed systemKind systemCell choose
 system-kind l st n = go (same n (bytes "SYSLIST")) (same n (bytes "SYSNDX")) (same n (bytes "SYSECT"))
   where
