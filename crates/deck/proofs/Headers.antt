@@ -1,30 +1,29 @@
 -- The macros of an accepted library's deck: their names, and how many parameters and locals they have.
-use Prim.Native.Nat.{ℕ, zero, suc, _+_, _≤_, _<_}
+use Prim.Native.Nat.{ℕ, suc, _+_, _≤_}
 use native.Mathlib.Omega.{arith}
-use mathlib.Core.Path.{_≡_, refl, ap, sym, _∙_, subst}
-use mathlib.Core.Bool.{Bool, true, false, _&&_, _||_, not}
-use mathlib.Core.List.{List, [], _∷_, _++_, map, append-assoc}
+use mathlib.Core.Path.{_≡_, sym, subst}
+use mathlib.Core.Bool.{Bool, true, false, _&&_, not}
+use mathlib.Core.List.{List, [], _∷_, _++_, append-assoc}
 use lib.Dec.{leb, ltb}
-use lib.ListN.{length, getD, drop, length-append}
+use lib.ListN.{length, drop, length-append}
 use borrow.Author.Tests.{le-leb, ltb-false}
 use Rattle.text.specs.Bytes.{Bytes}
 use Rattle.rules.specs.Choice.{choose}
-use Rattle.rules.specs.Limits.{libraryLimit, parameterLimit, localLimit, globalLimit, nestLimit}
+use Rattle.rules.specs.Limits.{libraryLimit, parameterLimit, localLimit, nestLimit}
 use Rattle.rules.specs.Lexemes.{Lex, byte, mark, ref, lone, lexed, unlexed}
 use Rattle.rules.specs.Fields.{fieldsOf, isEmpty}
 use Rattle.rules.specs.Statement.{Set}
 use Rattle.rules.specs.Calls.{equalsAt, hasEquals}
 use Rattle.rules.specs.Form.{isFormed}
-use Rattle.rules.specs.Library.{Macro, inBody, startSymbol, positionalNames, withDefault, keywordNames, operandParts, localsOn, globalsOn, declaredIn, namesIn, withGlobals}
+use Rattle.rules.specs.Library.{Macro, inBody, startSymbol, positionalNames, withDefault, keywordNames, operandParts, localsOn, declaredIn, namesIn}
 use Rattle.rules.specs.ByLines.{reading}
 use Rattle.rules.specs.Faults.{isMacroName, kindsOf, isPast, isOverLimit, accepted, verdict}
-use Rattle.rules.proofs.Choices.{by}
-use Rattle.rules.proofs.Logic.{or-left, or-right, then-not}
+use Rattle.rules.proofs.Logic.{or-left, or-right}
 use Rattle.rules.proofs.Symbols.{length-seconds}
 use Rattle.rules.proofs.Accepted.{Faultless, around}
 use Rattle.rules.proofs.Walked.{Lines, end, next, Proper}
 use Rattle.rules.proofs.Prototypes.{title-named, few-parts}
-use Rattle.deck.specs.Slots.{DeckMacro, deckMacro, parameters}
+use Rattle.deck.specs.Slots.{deckMacro, parameters}
 use Rattle.deck.proofs.Macros.{Each, each-macro}
 
 title-of : (gs : List (Bytes × Set)) (x : Macro) → Proper x → isMacroName (deckMacro gs (reading x) .title) ≡ true

@@ -1,33 +1,34 @@
 -- The keywords of an accepted library's macros: names told apart, and defaults that are in order when they are read alone.
-use Prim.Native.Nat.{ℕ, zero, suc, _+_, _≤_, _<_}
+use Prim.Native.Nat.{ℕ, zero, suc, _+_, _≤_}
 use native.Mathlib.Omega.{arith}
 use mathlib.Core.Path.{_≡_, refl, ap, sym, _∙_, subst}
 use mathlib.Core.Bool.{Bool, true, false, false≢true, _&&_, _||_, not}
 use mathlib.Core.List.{List, [], _∷_, _++_, append-assoc}
-use lib.Dec.{eqb, leb, ltb}
+use lib.Dec.{eqb, ltb}
 use lib.ListN.{length, take, drop, length-append}
 use borrow.Author.Tests.{le-leb, le-ltb, ltb-false, eq-eqb, not-false}
 use Rattle.text.specs.Bytes.{Bytes, bytes, same}
 use Rattle.text.specs.Characters.{letter, letterOrDigit, inSet}
 use Rattle.rules.specs.Choice.{choose, passed, every, any, run}
 use Rattle.rules.specs.Limits.{lineLimit, nameLimit}
-use Rattle.rules.specs.Lexemes.{equals, Lex, byte, mark, ref, lone, byteOf, isPlain, lexed, unlexed, refsIn, isLong, isName, outside, enters, isBare}
-use Rattle.rules.specs.Fields.{isIllWritten, startsWith, Fields, fieldsOf}
+use Rattle.rules.specs.Lexemes.{ampersand, apostrophe, equals, Lex, byte, mark, ref, lone, byteOf, isPlain, lexed, unlexed, refsIn, isLong, isName, outside, enters, isBare}
+use Rattle.rules.specs.Fields.{isIllWritten, startsWith, fieldsOf}
 use Rattle.rules.specs.Statement.{Set}
-use Rattle.rules.specs.Calls.{equalsAt, hasEquals, pairUp}
+use Rattle.rules.specs.Calls.{equalsAt, hasEquals}
 use Rattle.rules.specs.Library.{Macro, isOneSymbol, startSymbol, startSymbols, withDefault, keywordNames, operandParts, namesIn}
 use Rattle.rules.specs.ByLines.{reading}
 use Rattle.rules.specs.Faults.{hasLongSymbol, declaresWrongly, beforeEquals, isDefault, isGoodPart, areGoodParts, accepted, verdict}
 use Rattle.rules.proofs.Choices.{by, either, chosen, passed-over, and-left, and-right}
 use Rattle.rules.proofs.Logic.{clash, or-left, or-right, else-so}
-use Rattle.rules.proofs.Lossless.{lexed-back, joinedFields, fields-back}
+use Rattle.rules.proofs.Lossless.{lexed-back, fields-back}
 use Rattle.rules.proofs.Walked.{Proper}
 use Rattle.rules.proofs.Prototypes.{none-long, declared-well, parts-good}
 use Rattle.rules.proofs.Pieces.{byte-is, Piece, parts-stand, every-append, every-part, isLettered, isLetteredIn, lexed-lettered, run-every}
 use Rattle.rules.proofs.Defaults.{default-again}
-use Rattle.deck.specs.Slots.{DeckMacro, deckMacro}
+use Rattle.deck.specs.Slots.{deckMacro}
 use Rattle.deck.specs.Good.{areDistinctKeywords, isKeyword}
 use Rattle.deck.proofs.Lists.{All}
+use Rattle.deck.proofs.Tests.{none-in-both, none-in-parts}
 use Rattle.deck.proofs.Macros.{Each, each-macro}
 
 abbrev Lexes : Type 0
@@ -128,9 +129,9 @@ unlexed-append : (s t : Lexes) → unlexed (s ++ t) ≡ unlexed s ++ unlexed t
 unfolding unlexed
 unlexed-append [] t = refl
 unlexed-append (byte c ∷ s) t = ap (λ (r : Bytes). c ∷ r) (unlexed-append s t)
-unlexed-append (mark ∷ s) t = ap (λ (r : Bytes). 39 ∷ r) (unlexed-append s t)
-unlexed-append (ref n ∷ s) t = ap (λ (r : Bytes). 38 ∷ (n ++ r)) (unlexed-append s t) ∙ ap (λ (r : Bytes). 38 ∷ r) (sym (append-assoc n (unlexed s) (unlexed t)))
-unlexed-append (lone ∷ s) t = ap (λ (r : Bytes). 38 ∷ r) (unlexed-append s t)
+unlexed-append (mark ∷ s) t = ap (λ (r : Bytes). apostrophe ∷ r) (unlexed-append s t)
+unlexed-append (ref n ∷ s) t = ap (λ (r : Bytes). ampersand ∷ (n ++ r)) (unlexed-append s t) ∙ ap (λ (r : Bytes). ampersand ∷ r) (sym (append-assoc n (unlexed s) (unlexed t)))
+unlexed-append (lone ∷ s) t = ap (λ (r : Bytes). ampersand ∷ r) (unlexed-append s t)
 
 -- ---- names
 
@@ -154,17 +155,6 @@ unfolding declaresWrongly
 declares-first b n ns h =
     (or-left (startsWith (bytes "SYS") n) _ h, or-left (any (same n) ns) _ (or-right (b n) _ (or-right (startsWith (bytes "SYS") n) _ h)))
 
-any-append-false : {A : Type 0} (test : A → Bool) (s t : List A) → any test s ≡ false → any test t ≡ false → any test (s ++ t) ≡ false
-unfolding any
-any-append-false test [] t h k = k
-any-append-false test (a ∷ s) t h k = λ i. or-left (test a) _ h i || any-append-false test s t (or-right (test a) _ h) k i
-
-any-parts-false : {A : Type 0} (test : A → Bool) (s t : List A) → any test (s ++ t) ≡ false → (any test s ≡ false) × (any test t ≡ false)
-unfolding any
-any-parts-false test [] t h = (refl, h)
-any-parts-false test (a ∷ s) t h =
-    let r = any-parts-false test s t (or-right (test a) _ h) in (λ i. or-left (test a) _ h i || r .0 i, r .1)
-
 module _ (n : Bytes) where
   abbrev isIt : (Bytes × Bytes) → Bool
   isIt j = same n (j .0)
@@ -178,9 +168,9 @@ module _ (n : Bytes) where
   unfolding any startSymbols keywordNames
   no-such-keyword [] h = refl
   no-such-keyword (p ∷ ps) h =
-      let r = any-parts-false (same n) (startSymbol p) (startSymbols ps) h in
+      let r = none-in-parts (same n) (startSymbol p) (startSymbols ps) h in
       let d = unlexed (drop (suc (equalsAt p)) p) in
-      any-append-false isIt (choose (hasEquals p) (withDefault (startSymbol p) d) []) (keywordNames ps)
+      none-in-both isIt (choose (hasEquals p) (withDefault (startSymbol p) d) []) (keywordNames ps)
       (either (λ (s : List (Bytes × Bytes)). any isIt s ≡ false) (hasEquals p) {x = withDefault (startSymbol p) d} {y = []} (λ e. one-other (startSymbol p) d (r .0)) (λ e. refl))
       (no-such-keyword ps (r .1))
 

@@ -1,5 +1,6 @@
 pub mod Lists
 pub mod Coding
+pub mod Tests
 pub mod Titles
 pub mod Macros
 pub mod Headers

@@ -1,19 +1,20 @@
 -- The deck of an accepted library meets the test of good form, where its lexemes are in order.
-use Prim.Native.Nat.{ℕ, _<_}
+use Prim.Native.Nat.{ℕ}
 use mathlib.Core.Path.{_≡_, refl, ap, sym, _∙_}
-use mathlib.Core.Bool.{Bool, true, false, _&&_}
-use mathlib.Core.List.{List, [], _∷_, map}
+use mathlib.Core.Bool.{Bool, true, _&&_}
+use mathlib.Core.List.{List, [], _∷_}
 use lib.ListN.{length, getD}
 use Rattle.text.specs.Bytes.{Bytes}
 use Rattle.rules.specs.Choice.{every}
-use Rattle.rules.specs.Limits.{libraryLimit, nestLimit}
+use Rattle.rules.specs.Limits.{nestLimit}
 use Rattle.rules.specs.Statement.{Set, Line, mapLine}
 use Rattle.rules.specs.Form.{isFormed}
 use Rattle.rules.specs.Faults.{accepted, verdict}
 use Rattle.rules.proofs.Choices.{and-left, and-right}
-use Rattle.deck.specs.Slots.{Slot, DeckMacro, Deck, slotKind, noMacro, resolvedLibrary}
+use Rattle.deck.specs.Slots.{Slot, DeckMacro, slotKind, noMacro, resolvedLibrary}
 use Rattle.deck.specs.Good.{areLexemes, isInOrder, isLine, actrEnd, isMacro, isGood}
-use Rattle.deck.proofs.Macros.{Each, every-each}
+use Rattle.deck.proofs.Tests.{every-each}
+use Rattle.deck.proofs.Macros.{Each}
 use Rattle.deck.proofs.Titles.{distinct-titles}
 use Rattle.deck.proofs.Headers.{titles-named, few-parameters, few-locals}
 use Rattle.deck.proofs.Keywords.{good-keywords, distinct-keywords}

@@ -1,9 +1,9 @@
 -- An accepted library's deck is within the limits of 01: its globals, its macros, its lines.
-use Prim.Native.Nat.{ℕ, zero, suc, _+_, _≤_, _<_}
+use Prim.Native.Nat.{ℕ, _+_, _≤_, _<_}
 use native.Mathlib.Omega.{arith}
 use mathlib.Core.Path.{_≡_, refl, ap, sym, _∙_, subst}
-use mathlib.Core.Bool.{Bool, true, false, _&&_, _||_, not}
-use mathlib.Core.List.{List, [], _∷_, _++_, map, append-nil}
+use mathlib.Core.Bool.{true, false, _&&_, not}
+use mathlib.Core.List.{List, [], _∷_, map, append-nil}
 use lib.Dec.{leb, ltb}
 use lib.ListN.{length, length-map}
 use borrow.Author.Tests.{le-leb, leb-false, ltb-false}
@@ -12,14 +12,14 @@ use Rattle.rules.specs.Limits.{libraryLimit, macroLimit, localLimit, globalLimi
 use Rattle.rules.specs.Fields.{linesOf, isEmpty}
 use Rattle.rules.specs.Statement.{Set}
 use Rattle.rules.specs.Form.{isFormed}
-use Rattle.rules.specs.Library.{Macro, outer, inBody, macrosFrom, isMacro, localsOn, globalsOn, declaredIn, Names, namesIn, withGlobals, globalsOf}
-use Rattle.rules.specs.ByLines.{Reading, reading}
+use Rattle.rules.specs.Library.{Macro, outer, inBody, macrosFrom, isMacro, localsOn, globalsOn, declaredIn, namesIn, withGlobals, globalsOf}
+use Rattle.rules.specs.ByLines.{reading}
 use Rattle.rules.specs.Faults.{Around, kindsOf, isPast, isOverLimit, accepted, verdict}
 use Rattle.rules.proofs.Logic.{or-left, or-right, then-not}
 use Rattle.rules.proofs.Symbols.{length-seconds}
 use Rattle.rules.proofs.Accepted.{Faultless, around}
 use Rattle.rules.proofs.Walked.{with-append, Lines, end, next, Found, none, other, found, all-found}
-use Rattle.deck.specs.Slots.{DeckMacro, Deck, deckMacro, resolvedLine, deckIn, resolvedLibrary}
+use Rattle.deck.specs.Slots.{deckMacro, resolvedLine, deckIn, resolvedLibrary}
 use Rattle.deck.specs.Good.{totalLines}
 use Rattle.deck.proofs.Macros.{globalsIn}
 

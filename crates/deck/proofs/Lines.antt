@@ -1,36 +1,35 @@
 -- The lines of an accepted library's macros: MEND at the end and only there, ACTR once at most and behind declarations, texts and targets in order.
-use Prim.Native.Nat.{ℕ, zero, suc, _+_, _-_, _≤_, _<_}
+use Prim.Native.Nat.{ℕ, zero, suc, _-_, _≤_, _<_}
 use native.Mathlib.Omega.{arith}
 use mathlib.Core.Path.{_≡_, refl, ap, sym, _∙_, subst}
 use mathlib.Core.Logic.{⊎-elim}
 use mathlib.Core.Bool.{Bool, true, false, true≢false, false≢true, _&&_, _||_, not}
-use mathlib.Core.List.{List, [], _∷_, _++_, map}
-use lib.Dec.{eqb, leb, ltb}
-use lib.ListN.{length, getD, take, drop, length-map}
-use borrow.Author.Tests.{le-leb, lt-ltb, eqb-false, not-true, not-false}
+use mathlib.Core.List.{List, [], _∷_, map}
+use lib.Dec.{eqb}
+use lib.ListN.{length, getD, drop, length-map}
+use borrow.Author.Tests.{le-leb, lt-ltb, eqb-false, not-true}
 use Rattle.text.specs.Bytes.{Bytes, bytes, same}
-use Rattle.text.specs.Words.{placeAmong, words, wordNumber}
+use Rattle.text.specs.Words.{words, wordNumber}
 use Rattle.rules.specs.Choice.{choose, every, any}
 use Rattle.rules.specs.Lexemes.{isPlain, lexed, isSequence}
-use Rattle.rules.specs.Fields.{isIllWritten, isRemark, isCopiedRemark, isDroppedRemark, startsWith, Fields, fieldsOf, noFields, statementFields, isEmpty}
+use Rattle.rules.specs.Fields.{isRemark, isCopiedRemark, isDroppedRemark, startsWith, Fields, fieldsOf, statementFields, isEmpty}
 use Rattle.rules.specs.Statement.{Set, Statement, macro, mend, mexit, local, global, set, aif, ago, anop, actr, model, statements, statementOf, Does, passes, ends, exits, text, models, sets, branchesIf, branches, counts, Line, mapDoes, mapLine, isCopied, doing, modelOf, says, read}
-use Rattle.rules.specs.Machine.{isLanguageWord}
-use Rattle.rules.specs.Library.{Macro, Names, operationOf, isMend, lineNamed}
+use Rattle.rules.specs.Library.{Macro, operationOf, isMend, lineNamed}
 use Rattle.rules.specs.ByLines.{Reading, reading}
 use Rattle.rules.specs.Faults.{atStatement, endsDeclarations, isMisplaced, isModelName, areFieldsGood, accepted, verdict}
-use Rattle.rules.proofs.Choices.{by, either, chosen, passed-over, and-left, and-right}
-use Rattle.rules.proofs.Logic.{clash, or-left, or-right, then-not, else-so, any-first, any-behind, any-in-front}
-use Rattle.rules.proofs.Said.{isCount, count-kept, targets, isModel, model-is-no-word, statementOn, remark-says, statement-says, ends-there}
-use Rattle.rules.proofs.Said.{isText as isTextual, textIn}
+use Rattle.rules.proofs.Choices.{by, either, chosen, passed-over, and-right}
+use Rattle.rules.proofs.Logic.{clash, then-not, else-so, any-first, any-behind, any-in-front}
+use Rattle.rules.proofs.Said.{isText as isTextual, textIn, isCount, count-kept, targets, isModel, model-is-no-word, statementOn, remark-says, statement-says, ends-there}
 use Rattle.rules.proofs.Symbols.{same-sym, getD-mapped}
 use Rattle.rules.proofs.Closed.{mend-ends}
 use Rattle.rules.proofs.Texts.{text-line}
 use Rattle.rules.proofs.Accepted.{Stands, well-written, in-place, good-fields, Body, last, line, Known, line-stands}
-use Rattle.rules.proofs.Counting.{isActr, count-line, actr-at-statement, actr-misplaced, target-found, goes-behind}
+use Rattle.rules.proofs.Counting.{count-line, actr-at-statement, actr-misplaced, target-found, goes-behind}
 use Rattle.rules.proofs.Walked.{Proper, body-of}
-use Rattle.deck.specs.Slots.{Slot, DeckMacro, resolved, resolvedLine, deckMacro, noLine}
+use Rattle.deck.specs.Slots.{Slot, DeckMacro, resolvedLine, deckMacro, noLine}
 use Rattle.deck.specs.Good.{isStatementText, isText, isTarget, isInOrder, doesEnd, endsOnce, doesCount, mayPrecede, actrEnd, countsOnce}
-use Rattle.deck.proofs.Macros.{Each, each-macro, every-each}
+use Rattle.deck.proofs.Tests.{every-each, none-there}
+use Rattle.deck.proofs.Macros.{Each, each-macro}
 
 -- ---- MEND
 
@@ -46,12 +45,6 @@ isMendStatement ago = false
 isMendStatement anop = false
 isMendStatement actr = false
 isMendStatement model = false
-
-none-there : {A : Type 0} (test : A → Bool) (l : List A) (d : A) (i : ℕ) → any test l ≡ false → test d ≡ false → test (getD l i d) ≡ false
-unfolding any
-none-there test [] d i h e = e
-none-there test (a ∷ l) d zero h e = or-left (test a) _ h
-none-there test (a ∷ l) d (suc i) h e = none-there test l d i (or-right (test a) _ h) e
 
 -- an operation that is not MEND is another statement
 no-mend : (o : Bytes) → same o (bytes "MEND") ≡ false → isMendStatement (statementOf o) ≡ false

@@ -1,5 +1,5 @@
 -- A slot of an accepted library's deck has the kind of the name that it was, so its lines are well formed as the library's are.
-use Prim.Native.Nat.{ℕ, zero, suc, _+_, _≤_, _<_}
+use Prim.Native.Nat.{ℕ, _+_, _≤_, _<_}
 use native.Mathlib.Omega.{arith}
 use mathlib.Core.Path.{_≡_, refl, ap, sym, _∙_, subst}
 use mathlib.Core.Bool.{Bool, true, false, not}
@@ -15,11 +15,11 @@ use Rattle.rules.specs.Lexemes.{lexed}
 use Rattle.rules.specs.Fields.{linesOf, fieldsOf, isEmpty}
 use Rattle.rules.specs.Statement.{Set, setA, Line, mapLine, read}
 use Rattle.rules.specs.Grammar.{Kind, parameter, symbol, syslist, sysndx, sysect, unknown}
-use Rattle.rules.specs.Evaluate.{Store, Cell, ownCell, sharedCell}
+use Rattle.rules.specs.Evaluate.{Cell, ownCell, sharedCell}
 use Rattle.rules.specs.Machine.{Level}
 use Rattle.rules.specs.Form.{isFormed}
 use Rattle.rules.specs.Library.{outer, macrosFrom, Names, namesIn, firsts, seconds, parameterNames, lineNamed}
-use Rattle.rules.specs.ByLines.{ownNames, ownKinds, systemNamed, cellNamed, Reading, reading, noReading}
+use Rattle.rules.specs.ByLines.{ownNames, ownKinds, cellNamed, Reading, reading, noReading}
 use Rattle.rules.specs.Faults.{systemKind, kindNamed, kindsOf, accepted, verdict}
 use Rattle.rules.proofs.Choices.{by, chosen, passed-over}
 use Rattle.rules.proofs.Logic.{all-map, all-at}
@@ -27,9 +27,10 @@ use Rattle.rules.proofs.Symbols.{length-firsts, getD-mapped, system-kind, cell-
 use Rattle.rules.proofs.Accepted.{formed-in-limits, Known, line-stands, readings}
 use Rattle.rules.proofs.FormedLines.{form-alike, same-form}
 use Rattle.rules.proofs.Walked.{Proper, each-proper, all-found}
-use Rattle.deck.specs.Slots.{Slot, own, shared, list, index, section, nowhere, DeckMacro, Deck, systemSlot, resolved, resolvedLine, deckMacro, deckIn, resolvedLibrary, parameters, ownKindsOf, slotKind, noMacro, noLine}
+use Rattle.deck.specs.Slots.{Slot, own, shared, list, index, section, nowhere, DeckMacro, systemSlot, resolved, resolvedLine, deckMacro, deckIn, resolvedLibrary, parameters, ownKindsOf, slotKind, noMacro, noLine}
 use Rattle.deck.proofs.Lists.{map-constant}
-use Rattle.deck.proofs.Macros.{globalsIn, Each, every-each}
+use Rattle.deck.proofs.Tests.{every-each}
+use Rattle.deck.proofs.Macros.{globalsIn, Each}
 use Rattle.deck.proofs.Headers.{one-at-most}
 use Rattle.deck.proofs.Lines.{known-of}
 

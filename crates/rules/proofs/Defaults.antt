@@ -1,10 +1,10 @@
 -- A keyword's default is read alike in its prototype and alone: what stands before it is `=` outside quotes, what stands behind it a comma or nothing.
-use Prim.Native.Nat.{ℕ, zero, suc, _<_}
+use Prim.Native.Nat.{ℕ, _<_}
 use native.Mathlib.Nat.{not-suc-le-zero}
 use native.Mathlib.Omega.{arith}
 use mathlib.Core.Path.{_≡_, refl, ap, sym, _∙_, subst}
 use mathlib.Core.Logic.{_⊎_, inl, inr, ⊎-elim}
-use mathlib.Core.Bool.{Bool, true, false, false≢true, _&&_, _||_, not}
+use mathlib.Core.Bool.{Bool, true, false, _&&_, _||_, not}
 use mathlib.Core.List.{List, [], _∷_, _++_, append-assoc}
 use lib.Dec.{eqb}
 use lib.ListN.{length, getD, drop}
@@ -209,9 +209,6 @@ restarted b s e q = (λ i. marked true (record { second = b .second; first = e i
 
 -- ---- a plain text is read as it stands, up to a comma or the end
 
-abbrev IsRef : Lex Bytes → Type 0
-IsRef x = isPlain x ≡ false
-
 record Plainly (x d : Lexes) : Type 0 where
   rest : Lexes
   whole : x ≡ d ++ rest
@@ -356,14 +353,30 @@ quotes-append : (q : Bool) (s t : Lexes) → quotes q (s ++ t) ≡ quotes (quote
 quotes-append q [] t = refl
 quotes-append q (x ∷ s) t = quotes-append (flips q x) s t
 
+-- behind `=` outside quotes the reading is that of the bytes there
+record Afresh (x : Lexes) : Type 0 where
+  rest : Bytes
+  are : lexed true rest ≡ x
+
+behind-equals : (s : Bytes) (z y : Lexes) → quotes false z ≡ false → lexed true s ≡ z ++ (byte equals ∷ y) → Afresh y
+unfolding lexed fieldStart
+behind-equals s z y e h =
+    let r = resumes equals refl inText (marked true fieldStart s) z y h in
+    let k = continues equals refl fieldStart s (r .front) (r .back) (r .whole) in
+    let m : r .back ≡ marked true fieldStart (k .rest) = k .are ∙ restarted (k .at) (k .rest) (k .behind) (k .in-quotes ∙ (r .same-quotes false ∙ e)) in
+    record { rest = k .rest; are = ap (symbols inText) (sym m) ∙ r .again }
+
+-- a plain text that comes first, up to a comma or the end, is read alike alone
+plain-first : (s : Bytes) (d post : Lexes) → Ended post → every isPlain d ≡ true → lexed true s ≡ d ++ post → lexed true (unlexed d) ≡ d
+unfolding lexed
+plain-first s d post e plain h =
+    let y = plain-again post e (marked true fieldStart s) d plain h in
+    ap (symbols inText) (marked-again fieldStart s d (y .rest) (y .ended) (y .whole)) ∙ y .again
+
 pub default-again : (s n : Bytes) (d : Lexes) → Piece false (lexed true s) (ref n ∷ (byte equals ∷ d)) → every isPlain d ≡ true → lexed true (unlexed d) ≡ d
-unfolding lexed byteOf choose fieldStart
+unfolding byteOf choose
 default-again s n d p plain =
     let z = p .pre ++ (ref n ∷ []) in
-    let r = resumes equals refl inText (marked true fieldStart s) z (d ++ p .post)
-    (p .whole ∙ sym (append-assoc (p .pre) (ref n ∷ []) (byte equals ∷ (d ++ p .post)))) in
-    let k = continues equals refl fieldStart s (r .front) (r .back) (r .whole) in
-    let q = k .in-quotes ∙ (r .same-quotes false ∙ (quotes-append false (p .pre) (ref n ∷ []) ∙ p .unquoted)) in
-    let m = k .are ∙ restarted (k .at) (k .rest) (k .behind) q in
-    let y = plain-again (p .post) (p .closed) (r .back) d plain (r .again) in
-    ap (symbols inText) (marked-again fieldStart (k .rest) d (y .rest) (y .ended) (sym m ∙ y .whole)) ∙ y .again
+    let h = p .whole ∙ sym (append-assoc (p .pre) (ref n ∷ []) (byte equals ∷ (d ++ p .post))) in
+    let r = behind-equals s z (d ++ p .post) (quotes-append false (p .pre) (ref n ∷ []) ∙ p .unquoted) h in
+    plain-first (r .rest) d (p .post) (p .closed) plain (r .are)

@@ -1,17 +1,17 @@
 -- The parts into which an operand is divided stand in it outside quotes, each up to a comma or the operand's end; and a symbol that is read is a name.
-use Prim.Native.Nat.{ℕ, zero, suc}
+use Prim.Native.Nat.{ℕ, suc}
 use mathlib.Core.Path.{_≡_, refl, ap, sym, _∙_, subst}
-use mathlib.Core.Bool.{Bool, true, false, false≢true, _&&_, _||_, not}
-use mathlib.Core.List.{List, [], _∷_, _++_, append-assoc}
+use mathlib.Core.Bool.{Bool, true, false, false≢true, _&&_, not}
+use mathlib.Core.List.{List, [], _∷_, _++_}
 use lib.Dec.{eqb}
 use lib.ListN.{length}
 use borrow.Author.Tests.{not-true, eqb-true}
 use Rattle.text.specs.Bytes.{Bytes}
-use Rattle.text.specs.Characters.{letter, digit, letterOrDigit}
+use Rattle.text.specs.Characters.{letter, letterOrDigit}
 use Rattle.rules.specs.Choice.{choose, run, every, onFirst}
 use Rattle.rules.specs.Lexemes.{ampersand, apostrophe, comma, Lex, byte, mark, ref, lone, byteOf, Before, isMark, after, fieldStart, marked, Mode, inText, afterAmpersand, inSymbol, symbols, lexed, Inside, outside, enters, isBare}
 use Rattle.rules.specs.Calls.{parts, divided}
-use Rattle.rules.proofs.Choices.{either, chosen, passed-over, and-left, and-right}
+use Rattle.rules.proofs.Choices.{either, chosen, and-left, and-right}
 use Rattle.rules.proofs.Logic.{All}
 
 -- ---- quotes

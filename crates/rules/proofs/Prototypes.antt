@@ -1,9 +1,8 @@
 -- What acceptance says of a macro's prototype.
-use Prim.Native.Nat.{ℕ, suc, _+_, _≤_}
-use native.Mathlib.Omega.{arith}
-use mathlib.Core.Path.{_≡_, refl, ap, sym, _∙_, subst}
-use mathlib.Core.Bool.{Bool, true, false, _&&_, _||_, not}
-use mathlib.Core.List.{List, [], _∷_, _++_}
+use Prim.Native.Nat.{ℕ, _+_, _≤_}
+use mathlib.Core.Path.{_≡_, ap, _∙_}
+use mathlib.Core.Bool.{true, false, _||_, not}
+use mathlib.Core.List.{List, _++_}
 use lib.Dec.{leb}
 use lib.ListN.{length}
 use borrow.Author.Tests.{not-false, ltb-false}
@@ -11,7 +10,7 @@ use Rattle.text.specs.Bytes.{Bytes, same}
 use Rattle.rules.specs.Choice.{any}
 use Rattle.rules.specs.Limits.{libraryLimit, parameterLimit}
 use Rattle.rules.specs.Lexemes.{lexed}
-use Rattle.rules.specs.Fields.{isIllWritten, isRemark, Fields, fieldsOf, noFields, statementFields, isEmpty}
+use Rattle.rules.specs.Fields.{isRemark, Fields, fieldsOf, noFields, statementFields, isEmpty}
 use Rattle.rules.specs.Statement.{Set}
 use Rattle.rules.specs.Library.{atPrototype, operationOf, isOneSymbol, startSymbol, startSymbols, operandParts}
 use Rattle.rules.specs.Faults.{isOutOfPlace, hasLongSymbol, isLongSequence, declaresWrongly, isMacroName, beforeEquals, hasBadPrototypeName, hasBadName, areGoodParts, isGoodPrototype, isIllFormed, isPast, isOverLimit}

@@ -1,5 +1,5 @@
 -- What acceptance says of a library as a whole: its macros one after another, each with what the lines before it have brought.
-use Prim.Native.Nat.{ℕ, zero, suc, _+_}
+use Prim.Native.Nat.{ℕ, suc, _+_}
 use native.Mathlib.Omega.{arith}
 use mathlib.Core.Path.{_≡_, refl, ap, sym, _∙_, subst}
 use mathlib.Core.Bool.{Bool, true, false}
@@ -11,9 +11,9 @@ use Rattle.rules.specs.Fields.{linesOf}
 use Rattle.rules.specs.Statement.{Set}
 use Rattle.rules.specs.Calls.{isAmong}
 use Rattle.rules.specs.Library.{Macro, Place, outer, atPrototype, inBody, operationOf, isMacro, isMend, macrosFrom, globalsOn, declaredIn, withGlobals}
-use Rattle.rules.specs.Faults.{Around, noLines, placeAfter, titlesAfter, globalsAfter, macrosAfter, aroundAfter, accepted, atEnd, verdictFrom, verdict}
+use Rattle.rules.specs.Faults.{noLines, placeAfter, titlesAfter, globalsAfter, macrosAfter, aroundAfter, accepted, atEnd, verdictFrom, verdict}
 use Rattle.rules.proofs.Logic.{All}
-use Rattle.rules.proofs.Accepted.{Faultless, Stands, first-line, refused, around, Body, last, line}
+use Rattle.rules.proofs.Accepted.{Faultless, first-line, refused, around, Body, last, line}
 
 -- globals one line after another are those of the lines together
 pub with-append : (gs s t : List (Bytes × Set)) → withGlobals gs (s ++ t) ≡ withGlobals (withGlobals gs s) t
