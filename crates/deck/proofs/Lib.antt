@@ -4,3 +4,12 @@ pub mod Same
 pub mod Computing
 pub mod Example
 pub mod GoodRuns
+pub mod Tests
+pub mod Titles
+pub mod Macros
+pub mod Headers
+pub mod Keywords
+pub mod Lines
+pub mod Limits
+pub mod SlotKinds
+pub mod Library

@@ -31,7 +31,7 @@ none-of true b h = (h, cc h)
 none-of false b h = (refl, h)
 
 -- and ends its macro
-mend-ends : (l : Bytes) → isMend l ≡ true → read l .does ≡ ends
+pub mend-ends : (l : Bytes) → isMend l ≡ true → read l .does ≡ ends
 unfolding isRemark read statementOf statements says doing words wordNumber
 mend-ends l h =
     let o = mend-operation l h in

@@ -84,7 +84,7 @@ up-to-mend s more (line {l = l} {ls = ls} e x b) h =
 
 -- ---- ACTR lines
 
-abbrev isActr : Statement → Bool
+abbrev pub isActr : Statement → Bool
 isActr macro = false
 isActr mend = false
 isActr mexit = false
@@ -112,13 +112,13 @@ count-is-actr l f actr = refl
 count-is-actr l f model = either (λ (x : Line Bytes Bytes). isCount (x .does) ≡ false) (isCopied f) (λ e. refl) (λ e. refl)
 
 -- an ACTR line is no remark
-count-line : (l : Bytes) → isCount (read l .does) ≡ true → (isRemark l ≡ false) × (isActr (statementOn l) ≡ true)
+pub count-line : (l : Bytes) → isCount (read l .does) ≡ true → (isRemark l ≡ false) × (isActr (statementOn l) ≡ true)
 unfolding doing
 count-line l h = by (isRemark l)
     (λ e. clash h (⊎-elim (λ q. ap (λ x. isCount (x .does)) q) (λ q. ap (λ x. isCount (x .does)) q) (remark-says l e)))
     (λ e. (e, sym (ap (λ x. isCount (x .does)) (statement-says l e) ∙ count-is-actr l (statementFields l) (statementOn l)) ∙ h))
 
-actr-at-statement : (s : Statement) → isActr s ≡ true → atStatement s ≡ true
+pub actr-at-statement : (s : Statement) → isActr s ≡ true → atStatement s ≡ true
 unfolding atStatement
 actr-at-statement macro h = h
 actr-at-statement mend h = refl
@@ -132,7 +132,7 @@ actr-at-statement anop h = refl
 actr-at-statement actr h = refl
 actr-at-statement model h = refl
 
-actr-misplaced : (before : List Bytes) (o : Bytes) (s : Statement) → isActr s ≡ true → isMisplaced before o s ≡ any endsDeclarations before
+pub actr-misplaced : (before : List Bytes) (o : Bytes) (s : Statement) → isActr s ≡ true → isMisplaced before o s ≡ any endsDeclarations before
 unfolding isMisplaced
 actr-misplaced before o macro h = absurd (false≢true h)
 actr-misplaced before o mend h = absurd (false≢true h)
@@ -258,7 +258,7 @@ module _ {r : Reading} (a : Known r) where
   actr-ends i c = let q = count-line (at i) c in ends-there (at i) (q .0) (actr-at-statement (statementOn (at i)) (q .1))
 
   -- what a branch goes to is a line of the body that is named
-  target-found : (j : ℕ) (t : Bytes) → j < length (r .body) → targets (read (at j) .does) ≡ t ∷ []
+  pub target-found : (j : ℕ) (t : Bytes) → j < length (r .body) → targets (read (at j) .does) ≡ t ∷ []
       → (lineNamed t (r .body) < length (r .body)) × (isNamed t (at (lineNamed t (r .body))) ≡ true)
   target-found j t h e =
       let x = line-stands a j h in
@@ -278,7 +278,7 @@ module _ {r : Reading} (a : Known r) where
       (λ e. by (ltb j i) (λ f. clash (actr-ends j cj) (before-actr i j hi ci (ltb-true j i f)))
       (λ f. omega (arith, ltb-false i j e, ltb-false j i f)))
 
-  goes-behind : (i j : ℕ) (t : Bytes) → i < length (r .body) → j < length (r .body) → Counts i → targets (read (at j) .does) ≡ t ∷ [] → i < lineNamed t (r .body)
+  pub goes-behind : (i j : ℕ) (t : Bytes) → i < length (r .body) → j < length (r .body) → Counts i → targets (read (at j) .does) ≡ t ∷ [] → i < lineNamed t (r .body)
   goes-behind i j t hi hj ci e =
       let n = lineNamed t (r .body) in
       let q = target-found j t hj e in

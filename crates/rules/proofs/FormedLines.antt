@@ -37,7 +37,7 @@ module _ {R : Type 0} (kind : R → Kind) (cell : Bytes → R) {kind′ : Bytes 
   lexemes-alike (ref n ∷ x) = λ i. ref (same-kind n i) ∷ lexemes-alike x i
   lexemes-alike (lone ∷ x) = ap (λ (y : List (Lex Kind)). lone ∷ y) (lexemes-alike x)
 
-  form-alike : (n : ℕ) {L : Type 0} (g : Bytes → L) (x : Line Bytes Bytes)
+  pub form-alike : (n : ℕ) {L : Type 0} (g : Bytes → L) (x : Line Bytes Bytes)
       → isFormed n (mapLine kind (λ t. t) (mapLine cell g x)) ≡ isFormed n (mapLine kind′ (λ t. t) x)
   unfolding isFormed isFormedBy mapLine mapDoes
   form-alike n {L} g x = go (x .does)
@@ -177,7 +177,7 @@ module _ {r : Reading} (a : Known r) (i : ℕ) (h : i < length (r .body)) where
   before = take i (r .body)
 
   -- the line's form with all of the macro's names is its form with those before it
-  same-form : isFormed nestLimit (kindsOf (r .names) l) ≡ isFormed nestLimit (kindsOf (namesIn (a .prototype) before) l)
+  pub same-form : isFormed nestLimit (kindsOf (r .names) l) ≡ isFormed nestLimit (kindsOf (namesIn (a .prototype) before) l)
   unfolding kindsOf mapLine doing
   same-form =
       ⊎-elim

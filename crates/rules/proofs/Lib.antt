@@ -12,7 +12,11 @@ pub mod Formed
 pub mod Ends
 pub mod Closed
 pub mod Accepted
+pub mod Walked
 pub mod Said
+pub mod Prototypes
+pub mod Pieces
+pub mod Defaults
 pub mod Texts
 pub mod Counting
 pub mod Symbols

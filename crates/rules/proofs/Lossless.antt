@@ -52,7 +52,7 @@ symbols-back (inSymbol n) (ref k ∷ x) = ap (λ t. ampersand ∷ (n ++ (ampersa
 symbols-back (inSymbol n) (lone ∷ x) = ap (λ t. ampersand ∷ (n ++ (ampersand ∷ t))) (symbols-back inText x)
 
 -- a mark is an apostrophe
-mark-is : (b : Before) (c : ℕ) (s : Bytes) → isMark b c s ≡ true → c ≡ apostrophe
+pub mark-is : (b : Before) (c : ℕ) (s : Bytes) → isMark b c s ≡ true → c ≡ apostrophe
 unfolding isMark
 mark-is b c s h = eqb-true c apostrophe (and-left (eqb c apostrophe) _ h)
 

@@ -27,7 +27,7 @@ use Rattle.rules.proofs.Choices.{by, either, chosen, passed-over}
 eqb-sym : (a b : ℕ) → eqb a b ≡ eqb b a
 eqb-sym a b = by (eqb a b) (λ e. e ∙ sym (eq-eqb b a (sym (eqb-true a b e)))) (λ e. e ∙ sym (ne-eqb b a (λ q. eqb-false a b e (sym q))))
 
-same-sym : (s t : Bytes) → same s t ≡ same t s
+pub same-sym : (s t : Bytes) → same s t ≡ same t s
 same-sym [] [] = refl
 same-sym [] (d ∷ t) = refl
 same-sym (c ∷ s) [] = refl
@@ -84,24 +84,24 @@ module _ {X : Type 0} where
   seconds-append [] t = refl
   seconds-append (a ∷ s) t = ap (λ (l : List X). a .1 ∷ l) (seconds-append s t)
 
-  length-firsts : (s : List (Bytes × X)) → length (firsts s) ≡ length s
+  pub length-firsts : (s : List (Bytes × X)) → length (firsts s) ≡ length s
   unfolding firsts
   length-firsts [] = refl
   length-firsts (a ∷ s) = ap suc (length-firsts s)
 
-  length-seconds : (s : List (Bytes × X)) → length (seconds s) ≡ length s
+  pub length-seconds : (s : List (Bytes × X)) → length (seconds s) ≡ length s
   unfolding seconds
   length-seconds [] = refl
   length-seconds (a ∷ s) = ap suc (length-seconds s)
 
-getD-mapped : {A B : Type 0} (f : A → B) (l : List A) (i : ℕ) (d : A) (e : B) → i < length l → getD (map f l) i e ≡ f (getD l i d)
+pub getD-mapped : {A B : Type 0} (f : A → B) (l : List A) (i : ℕ) (d : A) (e : B) → i < length l → getD (map f l) i e ≡ f (getD l i d)
 getD-mapped f [] i d e h = absurd (not-suc-le-zero h)
 getD-mapped f (a ∷ l) zero d e h = refl
 getD-mapped f (a ∷ l) (suc i) d e h = getD-mapped f l i d e (le-of-suc-le-suc h)
 
 -- ---- the four cases
 
-system-kind : (l : Level) (st : Store) (n : Bytes) → systemNamed l st n .kind ≡ systemKind n
+pub system-kind : (l : Level) (st : Store) (n : Bytes) → systemNamed l st n .kind ≡ systemKind n
 unfolding systemNamed systemKind systemCell choose
 system-kind l st n = go (same n (bytes "SYSLIST")) (same n (bytes "SYSNDX")) (same n (bytes "SYSECT"))
   where

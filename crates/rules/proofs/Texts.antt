@@ -23,7 +23,7 @@ unfolding isLanguageWord noFields words
 remark-is-no-word l e = ap (λ f. isLanguageWord (f .operation)) (remark-fields l e)
 
 -- a line that is used as it stands
-text-line : (l : Bytes) → isText (read l .does) ≡ true → (textIn (read l .does) ≡ l) × (isLanguageWord (statementFields l .operation) ≡ false)
+pub text-line : (l : Bytes) → isText (read l .does) ≡ true → (textIn (read l .does) ≡ l) × (isLanguageWord (statementFields l .operation) ≡ false)
 unfolding doing
 text-line l h = by (isRemark l)
     (λ e. (
