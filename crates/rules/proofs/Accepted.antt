@@ -111,11 +111,11 @@ abbrev isAccepted : Verdict → Type 0
 isAccepted accepted = Unit {0}
 isAccepted (faulty e n) = ⊥
 
-refused : {P : Type 0} {e n : ℕ} → faulty e n ≡ accepted → P
+pub refused : {P : Type 0} {e n : ℕ} → faulty e n ≡ accepted → P
 refused h = absurd (subst isAccepted (sym h) tt)
 
 -- where lines are accepted, the first has no fault, and those after it are accepted
-first-line : (a : Around) (l : Bytes) (ls : List Bytes) → verdictFrom a (l ∷ ls) ≡ accepted → Faultless a l ls × (verdictFrom (aroundAfter l a) ls ≡ accepted)
+pub first-line : (a : Around) (l : Bytes) (ls : List Bytes) → verdictFrom a (l ∷ ls) ≡ accepted → Faultless a l ls × (verdictFrom (aroundAfter l a) ls ≡ accepted)
 unfolding verdictFrom
 first-line a l ls h = let r = go (faultOf a l ls) h in (faultless a l ls (r .0), r .1)
   where
@@ -143,7 +143,7 @@ Told outer ls ms = All Sound ms
 Told atPrototype ls ms = All Sound ms
 Told (inBody p before) ls ms = Rest p before ls ms
 
-abbrev around : ℕ → ℕ → List Bytes → List (Bytes × Set) → Place → Around
+abbrev pub around : ℕ → ℕ → List Bytes → List (Bytes × Set) → Place → Around
 around n m ts gs w = record { lines = n; macros = m; titles = ts; globals = gs; place = w }
 
 -- the macros found from a place on are sound, if the lines there are accepted, whatever came before

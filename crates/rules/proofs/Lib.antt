@@ -16,5 +16,6 @@ pub mod Texts
 pub mod Counting
 pub mod Symbols
 pub mod FormedLines
+pub mod OneKind
 pub mod Refusals
 pub mod Library
