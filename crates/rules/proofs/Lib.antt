@@ -17,5 +17,6 @@ pub mod Counting
 pub mod Symbols
 pub mod FormedLines
 pub mod OneKind
+pub mod NoLone
 pub mod Refusals
 pub mod Library
