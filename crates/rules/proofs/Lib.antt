@@ -18,5 +18,7 @@ pub mod Symbols
 pub mod FormedLines
 pub mod OneKind
 pub mod NoLone
+pub mod ReadLines
+pub mod BodyLines
 pub mod Refusals
 pub mod Library
