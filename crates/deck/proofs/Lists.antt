@@ -26,3 +26,8 @@ getD-map f (a ∷ l) (suc i) d = getD-map f l i d
 pub map-constant : {A B : Type 0} (b : B) (l : List A) → map (λ a. b) l ≡ replicate (length l) b
 map-constant b [] = refl
 map-constant b (a ∷ l) = ap (b ∷_) (map-constant b l)
+
+-- a fact of each place is one of each element
+pub all-mapped : {A B : Type 0} (P : B → Type 0) (f : A → B) (l : List A) (d : A) → ((i : ℕ) → i < length l → P (f (getD l i d))) → All P (map f l)
+all-mapped P f [] d h = tt
+all-mapped P f (a ∷ l) d h = (h 0 (omega arith), all-mapped P f l d (λ i k. h (suc i) (omega arith)))

@@ -20,5 +20,6 @@ pub mod OneKind
 pub mod NoLone
 pub mod ReadLines
 pub mod BodyLines
+pub mod Within
 pub mod Refusals
 pub mod Library

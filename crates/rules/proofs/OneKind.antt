@@ -1,5 +1,5 @@
 -- In an accepted library a global has one kind: the one that a macro declares is the one that the library gives it.
-use Prim.Native.Nat.{ℕ, zero, suc, _≤_, _<_}
+use Prim.Native.Nat.{ℕ, zero, suc, _+_, _≤_, _<_}
 use native.Mathlib.Nat.{le-of-suc-le-suc, not-suc-le-zero}
 use native.Mathlib.Omega.{arith}
 use mathlib.Core.Path.{_≡_, refl, ap, sym, _∙_, subst}
@@ -7,20 +7,22 @@ use mathlib.Core.Bool.{Bool, true, false, _&&_, _||_, not, and-false}
 use mathlib.Core.List.{List, [], _∷_, _++_, map, append-assoc, append-nil}
 use mathlib.Core.Option.{Option, none, some}
 use lib.ListN.{length, getD}
-use borrow.Author.Tests.{eq-eqb}
+use lib.Dec.{leb, ltb}
+use borrow.Author.Tests.{eq-eqb, ltb-false}
 use Rattle.text.specs.Bytes.{Bytes, bytes, same}
 use Rattle.text.specs.Words.{placeAmong}
 use Rattle.text.proofs.Same.{same-is}
 use Rattle.rules.specs.Choice.{choose, any}
+use Rattle.rules.specs.Limits.{nestLimit, libraryLimit, localLimit, globalLimit}
 use Rattle.rules.specs.Lexemes.{lexed}
-use Rattle.rules.specs.Fields.{linesOf, startsWith, Fields, statementFields}
+use Rattle.rules.specs.Fields.{linesOf, startsWith, Fields, statementFields, isEmpty}
 use Rattle.rules.specs.Statement.{Set, setA, setB, setC, Statement, macro, mend, mexit, local, global, set, aif, ago, anop, actr, model, statementOf}
 use Rattle.rules.specs.Grammar.{Kind, symbol, unknown}
-use Rattle.rules.specs.Form.{sameSet}
+use Rattle.rules.specs.Form.{sameSet, isFormed}
 use Rattle.rules.specs.Calls.{isAmong}
-use Rattle.rules.specs.Library.{Macro, Place, outer, atPrototype, inBody, isMacro, isMend, macrosFrom, startSymbols, ofKind, operandParts, globalsBy, globalsOn, declaredIn, Names, namesIn, firsts, seconds, withGlobals, globalsOf}
+use Rattle.rules.specs.Library.{Macro, Place, outer, atPrototype, inBody, isMacro, isMend, macrosFrom, startSymbols, ofKind, operandParts, globalsBy, localsOn, globalsOn, declaredIn, Names, namesIn, firsts, seconds, withGlobals, globalsOf}
 use Rattle.rules.specs.ByLines.{Reading, reading, noReading}
-use Rattle.rules.specs.Faults.{Around, noLines, declaresWrongly, isDeclared, hasLongSymbol, hasOtherKind, isLongSequence, hasUnknown, isUsedTwice, hasBadBodyName, hasBadName, placeAfter, titlesAfter, globalsAfter, macrosAfter, aroundAfter, accepted, atEnd, verdictFrom, verdict}
+use Rattle.rules.specs.Faults.{Around, noLines, declaresWrongly, isDeclared, hasLongSymbol, hasOtherKind, isLongSequence, hasUnknown, isUsedTwice, hasBadBodyName, hasBadName, kindsOf, isPast, isOverLimit, placeAfter, titlesAfter, globalsAfter, macrosAfter, aroundAfter, accepted, atEnd, verdictFrom, verdict}
 use Rattle.rules.proofs.Choices.{by, either, chosen, passed-over}
 use Rattle.rules.proofs.Logic.{clash, or-left, or-right, All, all-same}
 use Rattle.rules.proofs.Accepted.{Faultless, refused, first-line, around, readings}
@@ -79,10 +81,10 @@ unfolding withGlobals
 added-in-turn gs [] t = refl
 added-in-turn gs (g ∷ s) t = added-in-turn (choose (isAmong (g .0) gs) gs (gs ++ (g ∷ []))) s t
 
-declared-in-turn : (s t : List Bytes) → declaredIn globalsOn (s ++ t) ≡ declaredIn globalsOn s ++ declaredIn globalsOn t
+pub declared-in-turn : (on : Bytes → List (Bytes × Set)) (s t : List Bytes) → declaredIn on (s ++ t) ≡ declaredIn on s ++ declaredIn on t
 unfolding declaredIn
-declared-in-turn [] t = refl
-declared-in-turn (l ∷ s) t = ap (λ (x : Globals). globalsOn l ++ x) (declared-in-turn s t) ∙ sym (append-assoc (globalsOn l) _ _)
+declared-in-turn on [] t = refl
+declared-in-turn on (l ∷ s) t = ap (λ (x : Globals). on l ++ x) (declared-in-turn on s t) ∙ sym (append-assoc (on l) _ _)
 
 declared-one : (l : Bytes) → declaredIn globalsOn (l ∷ []) ≡ globalsOn l
 unfolding declaredIn
@@ -202,23 +204,40 @@ line-declares n m ts gs p before l ls x =
     statement-declares gs (namesIn p before) before (l ∷ ls) f (statementOf (f .operation))
     (or-right (isUsedTwice before (f .name)) _ (or-right (hasUnknown (namesIn p before) _) _ (or-right (isLongSequence (f .name)) _ (x .named))))
 
+abbrev Few : Globals → Type 0
+Few gs = length gs ≤ globalLimit
+
+-- what a faultless line declares leaves no more globals than 01 allows
+line-globals : (n m : ℕ) (ts : List Bytes) (gs : Globals) (p : Bytes) (before : List Bytes) (l : Bytes) (ls : List Bytes)
+    → Faultless (around n m ts gs (inBody p before)) l ls → Few gs → Few (withGlobals gs (globalsOn l))
+unfolding isOverLimit isPast isEmpty withGlobals
+line-globals n m ts gs p before l ls x few =
+    let formed = isFormed nestLimit (kindsOf (namesIn p before) l) in
+    let locals = not (isEmpty (localsOn l)) && ltb localLimit (length (namesIn p before .locals) + length (localsOn l)) in
+    go (globalsOn l) (or-right locals _ (or-right (not formed) _ (or-right (leb libraryLimit n) _ (x .within))))
+  where
+    go : (new : Globals) → (not (isEmpty new) && ltb globalLimit (length (withGlobals gs new))) ≡ false → Few (withGlobals gs new)
+    go [] e = few
+    go (g ∷ new) e = ltb-false globalLimit (length (withGlobals gs (g ∷ new))) e
+
 -- ---- all lines
 
--- each macro's globals are there behind it, with their kinds
+-- each macro's globals are there behind it, with their kinds, and there are no more than 01 allows
 abbrev Agree : Globals → List Macro → Type 0
-Agree gs [] = Unit {0}
+Agree gs [] = Few gs
 Agree gs (m ∷ ms) = Declares gs (declaredIn globalsOn (m .body)) × Agree (withGlobals gs (declaredIn globalsOn (m .body))) ms
 
 -- so far in a body: the globals are those before it and what it has declared
 record SoFar (first : Globals) (before : List Bytes) (gs : Globals) : Type 0 where
   globals-are : gs ≡ withGlobals first (declaredIn globalsOn before)
   declares : (n : Bytes) (j : Set) → kindIn (declaredIn globalsOn before) n ≡ some j → kindIn gs n ≡ some j
+  few : Few gs
 
-one-further : (first : Globals) (before : List Bytes) (gs : Globals) (l : Bytes) → SoFar first before gs → Declares gs (globalsOn l)
+one-further : (first : Globals) (before : List Bytes) (gs : Globals) (l : Bytes) → SoFar first before gs → Declares gs (globalsOn l) → Few (withGlobals gs (globalsOn l))
     → SoFar first (before ++ (l ∷ [])) (withGlobals gs (globalsOn l))
-one-further first before gs l s d =
+one-further first before gs l s d k =
     let e : declaredIn globalsOn (before ++ (l ∷ [])) ≡ declaredIn globalsOn before ++ globalsOn l =
-    declared-in-turn before (l ∷ []) ∙ ap (λ (x : Globals). declaredIn globalsOn before ++ x) (declared-one l) in
+    declared-in-turn globalsOn before (l ∷ []) ∙ ap (λ (x : Globals). declaredIn globalsOn before ++ x) (declared-one l) in
     record {
       globals-are =
           ap (λ (x : Globals). withGlobals x (globalsOn l)) (s .globals-are)
@@ -226,11 +245,12 @@ one-further first before gs l s d =
       declares = λ n j h.
           in-part (declaredIn globalsOn before) (globalsOn l) n j (ap (λ (x : Globals). kindIn x n) (sym e) ∙ h)
           (λ a. kept gs (globalsOn l) n j (s .declares n j a)) (d n j);
+      few = k;
     }
 
 abbrev Told : List Bytes → Place → Globals → Globals → Type 0
-Told ls outer first gs = Agree gs (macrosFrom outer ls)
-Told ls atPrototype first gs = Agree gs (macrosFrom atPrototype ls)
+Told ls outer first gs = Few gs → Agree gs (macrosFrom outer ls)
+Told ls atPrototype first gs = Few gs → Agree gs (macrosFrom atPrototype ls)
 Told ls (inBody p before) first gs = SoFar first before gs → Agree first (macrosFrom (inBody p before) ls)
 
 abbrev Tells : List Bytes → Place → Type 0
@@ -245,20 +265,20 @@ body-done first p body gs ms s a = (
 
 tells : (ls : List Bytes) (w : Place) → Tells ls w
 unfolding verdictFrom macrosFrom atEnd aroundAfter placeAfter macrosAfter titlesAfter globalsAfter choose declaredIn withGlobals
-tells [] outer n m ts first gs h = tt
+tells [] outer n m ts first gs h = λ few. few
 tells [] atPrototype n m ts first gs h = refused h
 tells [] (inBody p before) n m ts first gs h = refused h
-tells (l ∷ ls) outer n m ts first gs h = go (isMacro l) (first-line (around n m ts gs outer) l ls h .1) (tells ls outer) (tells ls atPrototype)
+tells (l ∷ ls) outer n m ts first gs h = λ few. go (isMacro l) few (first-line (around n m ts gs outer) l ls h .1) (tells ls outer) (tells ls atPrototype)
   where
-    go : (b : Bool) → verdictFrom (around (suc n) (choose b (suc m) m) ts gs (choose b atPrototype outer)) ls ≡ accepted
+    go : (b : Bool) → Few gs → verdictFrom (around (suc n) (choose b (suc m) m) ts gs (choose b atPrototype outer)) ls ≡ accepted
         → Tells ls outer → Tells ls atPrototype → Agree gs (choose b (macrosFrom atPrototype ls) (macrosFrom outer ls))
-    go true h f g = g (suc n) (suc m) ts gs gs h
-    go false h f g = f (suc n) m ts gs gs h
-tells (l ∷ ls) atPrototype n m ts first gs h =
-    tells ls (inBody l []) (suc n) m _ gs gs (first-line (around n m ts gs atPrototype) l ls h .1) (record { globals-are = refl; declares = λ n j e. none-is-not e })
+    go true few h f g = g (suc n) (suc m) ts gs gs h few
+    go false few h f g = f (suc n) m ts gs gs h few
+tells (l ∷ ls) atPrototype n m ts first gs h = λ few.
+    tells ls (inBody l []) (suc n) m _ gs gs (first-line (around n m ts gs atPrototype) l ls h .1) (record { globals-are = refl; declares = λ n j e. none-is-not e; few = few })
 tells (l ∷ ls) (inBody p before) n m ts first gs h = λ s.
     let r = first-line (around n m ts gs (inBody p before)) l ls h in
-    go (isMend l) (one-further first before gs l s (line-declares n m ts gs p before l ls (r .0))) (r .1) (tells ls outer) (tells ls (inBody p (before ++ (l ∷ []))))
+    go (isMend l) (one-further first before gs l s (line-declares n m ts gs p before l ls (r .0)) (line-globals n m ts gs p before l ls (r .0) (s .few))) (r .1) (tells ls outer) (tells ls (inBody p (before ++ (l ∷ []))))
   where
     go : (b : Bool) → SoFar first (before ++ (l ∷ [])) (withGlobals gs (globalsOn l))
         → verdictFrom (around (suc n) m ts (withGlobals gs (globalsOn l)) (choose b outer (inBody p (before ++ (l ∷ []))))) ls ≡ accepted
@@ -266,7 +286,7 @@ tells (l ∷ ls) (inBody p before) n m ts first gs h = λ s.
         → Agree first (choose b (record { prototype = p; body = before ++ (l ∷ []) } ∷ macrosFrom outer ls) (macrosFrom (inBody p (before ++ (l ∷ []))) ls))
     go true s h f g =
         let gs′ = withGlobals gs (globalsOn l) in
-        body-done first p (before ++ (l ∷ [])) gs′ (macrosFrom outer ls) s (f (suc n) m ts first gs′ h)
+        body-done first p (before ++ (l ∷ [])) gs′ (macrosFrom outer ls) s (f (suc n) m ts first gs′ h (s .few))
     go false s h f g = g (suc n) m ts first (withGlobals gs (globalsOn l)) h s
 
 -- ---- the macro at a place
@@ -321,26 +341,36 @@ in-range (g ∷ gs) n j h = go (same (g .0) n) h (in-range gs n j)
     go true h ih = omega arith
     go false h ih = omega (arith, ih h)
 
+few-at-end : (ms : List Macro) (gs : Globals) → Agree gs ms → Few (globalsOf gs (namesOf (map reading ms)))
+unfolding globalsOf reading namesIn
+few-at-end [] gs a = a
+few-at-end (m ∷ ms) gs a = few-at-end ms _ (a .1)
+
 -- the library's globals
 abbrev pub globalsIn : Bytes → List (Bytes × Set)
 globalsIn library = globalsOf [] (map (λ r. r .names) (readings library))
+
+library-agrees : (library : Bytes) → verdict library ≡ accepted → Agree [] (macrosFrom outer (linesOf library))
+unfolding verdict noLines
+library-agrees library e = tells (linesOf library) outer 0 0 [] [] [] e (omega arith)
+
+pub few-globals : (library : Bytes) → verdict library ≡ accepted → length (globalsIn library) ≤ globalLimit
+few-globals library e = few-at-end (macrosFrom outer (linesOf library)) [] (library-agrees library e)
 
 pub one-kind : (library : Bytes) → verdict library ≡ accepted → (k : ℕ) (n : Bytes)
     → let names = getD (readings library) k noReading .names in
     let p = placeAmong (firsts (names .globals)) n in
     p < length (names .globals) → getD (map symbol (seconds (globalsIn library))) (placeAmong (firsts (globalsIn library)) n) unknown ≡ symbol (getD (seconds (names .globals)) p setA)
-unfolding verdict noLines
 one-kind library e k n h =
     kind-at (globalsIn library) n _
-    (agrees-at (macrosFrom outer (linesOf library)) [] (tells (linesOf library) outer 0 0 [] [] [] e) k n _
+    (agrees-at (macrosFrom outer (linesOf library)) [] (library-agrees library e) k n _
     (found-kind (getD (readings library) k noReading .names .globals) n h))
 
 -- where a macro's global is in range, so is the library's
 pub global-in-range : (library : Bytes) → verdict library ≡ accepted → (k : ℕ) (n : Bytes)
     → let names = getD (readings library) k noReading .names in
     placeAmong (firsts (names .globals)) n < length (names .globals) → placeAmong (firsts (globalsIn library)) n < length (globalsIn library)
-unfolding verdict noLines
 global-in-range library e k n h =
     in-range (globalsIn library) n _
-    (agrees-at (macrosFrom outer (linesOf library)) [] (tells (linesOf library) outer 0 0 [] [] [] e) k n _
+    (agrees-at (macrosFrom outer (linesOf library)) [] (library-agrees library e) k n _
     (found-kind (getD (readings library) k noReading .names .globals) n h))

@@ -74,22 +74,22 @@ place-behind n (w ∷ s) t h = go (same w n) h (place-behind n s t)
 -- ---- names with their kinds
 
 module _ {X : Type 0} where
-  firsts-append : (s t : List (Bytes × X)) → firsts (s ++ t) ≡ firsts s ++ firsts t
+  pub firsts-append : (s t : List (Bytes × X)) → firsts (s ++ t) ≡ firsts s ++ firsts t
   unfolding firsts
   firsts-append [] t = refl
   firsts-append (a ∷ s) t = ap (λ (l : List Bytes). a .0 ∷ l) (firsts-append s t)
 
-  seconds-append : (s t : List (Bytes × X)) → seconds (s ++ t) ≡ seconds s ++ seconds t
+  pub seconds-append : (s t : List (Bytes × X)) → seconds (s ++ t) ≡ seconds s ++ seconds t
   unfolding seconds
   seconds-append [] t = refl
   seconds-append (a ∷ s) t = ap (λ (l : List X). a .1 ∷ l) (seconds-append s t)
 
-  length-firsts : (s : List (Bytes × X)) → length (firsts s) ≡ length s
+  pub length-firsts : (s : List (Bytes × X)) → length (firsts s) ≡ length s
   unfolding firsts
   length-firsts [] = refl
   length-firsts (a ∷ s) = ap suc (length-firsts s)
 
-  length-seconds : (s : List (Bytes × X)) → length (seconds s) ≡ length s
+  pub length-seconds : (s : List (Bytes × X)) → length (seconds s) ≡ length s
   unfolding seconds
   length-seconds [] = refl
   length-seconds (a ∷ s) = ap suc (length-seconds s)
