@@ -21,5 +21,7 @@ pub mod NoLone
 pub mod ReadLines
 pub mod BodyLines
 pub mod Within
+pub mod Keywords
+pub mod Taken
 pub mod Refusals
 pub mod Library
