@@ -1,3 +1,4 @@
 pub mod Lists
 pub mod Coding
 pub mod InOrder
+pub mod Fits
