@@ -1,9 +1,9 @@
 -- The deck of an accepted library fits its coding.
-use Prim.Native.Nat.{ℕ, zero, suc, _+_, _≤_, _<_}
+use Prim.Native.Nat.{ℕ, suc, _+_, _≤_, _<_}
 use native.Mathlib.Omega.{arith}
 use mathlib.Core.Path.{_≡_, refl, ap, sym, _∙_, subst}
 use mathlib.Core.Bool.{Bool, true, false, false≢true, true≢false, _&&_, _||_}
-use mathlib.Core.List.{List, [], _∷_, _++_, map}
+use mathlib.Core.List.{List, [], _∷_, map}
 use lib.Dec.{eqb, leb, ltb}
 use lib.ListN.{length, getD, length-map}
 use borrow.Author.Tests.{eqb-true, leb-true, ltb-true, ltb-false, le-ltb}
@@ -11,20 +11,20 @@ use Rattle.text.specs.Bytes.{Bytes, bytes, same}
 use Rattle.text.specs.Characters.{inSet}
 use Rattle.text.specs.Words.{placeAmong}
 use Rattle.rules.specs.Choice.{choose, any, every}
-use Rattle.rules.specs.Limits.{lineLimit, libraryLimit, macroLimit, parameterLimit, localLimit, globalLimit}
+use Rattle.rules.specs.Limits.{lineLimit, parameterLimit, localLimit, globalLimit}
 use Rattle.rules.specs.Lexemes.{ampersand, apostrophe, Lex, byte as char, mark, ref, lone, unlexed, refsIn, isLong}
 use Rattle.rules.specs.Statement.{Set, Line, Does, passes, ends, exits, text, models, sets, branchesIf, branches, counts, mapLex, mapDoes, mapLine, read}
-use Rattle.rules.specs.Grammar.{Kind, syslist, sysndx, sysect, unknown}
+use Rattle.rules.specs.Grammar.{syslist, sysndx, sysect, unknown}
 use Rattle.rules.specs.Fields.{linesOf}
 use Rattle.rules.specs.Machine.{Level}
 use Rattle.rules.specs.Library.{outer, macrosFrom, Names, firsts, isNamed, lineNamed}
 use Rattle.rules.specs.ByLines.{Reading, reading, noReading, ownNames}
 use Rattle.rules.specs.Faults.{systemKind, kindNamed, isUnknownKind, hasUnknown, accepted, verdict}
-use Rattle.rules.proofs.Choices.{by, either, passed-over, and-left, and-right}
-use Rattle.rules.proofs.Logic.{clash, or-left, or-right}
+use Rattle.rules.proofs.Choices.{either, passed-over, and-left, and-right}
+use Rattle.rules.proofs.Logic.{or-left, or-right}
 use Rattle.rules.proofs.Symbols.{cell-kind, other-cell, length-seconds}
 use Rattle.rules.proofs.NoLone.{NoLone}
-use Rattle.rules.proofs.ReadLines.{InSet, every-behind, lexemes-short, Shape, Reads}
+use Rattle.rules.proofs.ReadLines.{InSet, every-behind, lexemes-short, Shape}
 use Rattle.rules.proofs.BodyLines.{KnownIn, line-written, line-says, line-clean, line-known}
 use Rattle.rules.proofs.Accepted.{readings}
 use Rattle.rules.proofs.OneKind.{globalsIn, global-in-range, few-globals}
@@ -32,9 +32,9 @@ use Rattle.rules.proofs.Within.{few-macros}
 use Rattle.rules.proofs.Keywords.{keywordBytes, GoodKeyword}
 use Rattle.rules.proofs.Taken.{Taken, taken-at, is-known, title-written, own-names, own-locals, positionals-and-keywords, own-keywords}
 use Rattle.rules.proofs.Logic
-use Rattle.deck.specs.Slots.{Slot, own, shared, list, index, section, nowhere, DeckMacro, Deck, systemSlot, resolved, resolvedLine, deckMacro, deckIn, resolvedLibrary}
+use Rattle.deck.specs.Slots.{Slot, own, list, index, section, nowhere, systemSlot, resolved, resolvedLine, deckMacro, deckIn, resolvedLibrary}
 use Rattle.deck.proofs.Lists.{All, all-mapped}
-use Rattle.deck.proofs.Coding.{IsByte, IsCount, FitsSlot, FitsLex, FitsField, FitsString, HasNoFields, HasOperandOnly, FitsDoing, FitsLine, FitsKeywords, FitsKinds, FitsMacro, FitsDeck}
+use Rattle.deck.proofs.Coding.{IsByte, IsCount, FitsSlot, FitsLex, FitsField, FitsString, FitsDoing, FitsLine, FitsMacro, FitsDeck}
 
 -- ---- bytes
 

@@ -1,11 +1,10 @@
 -- The lexemes of an accepted library's deck are in order: at most a line's in a field, text bytes in the set, no ampersand left over.
 use Prim.Native.Nat.{ℕ, _≤_, _<_}
 use native.Mathlib.Omega.{arith}
-use mathlib.Core.Path.{_≡_, refl, ap, sym, _∙_}
-use mathlib.Core.Bool.{Bool, true, false, false≢true, _&&_}
+use mathlib.Core.Path.{_≡_, refl, ap, _∙_}
+use mathlib.Core.Bool.{Bool, true, false≢true, _&&_}
 use mathlib.Core.List.{List, [], _∷_, map}
-use lib.Dec.{leb}
-use lib.ListN.{length, getD, length-map, length-append}
+use lib.ListN.{length, getD, length-map}
 use borrow.Author.Tests.{le-leb}
 use Rattle.text.specs.Bytes.{Bytes}
 use Rattle.text.specs.Characters.{inSet}
@@ -17,11 +16,11 @@ use Rattle.rules.specs.Library.{globalsOf}
 use Rattle.rules.specs.ByLines.{Reading, noReading}
 use Rattle.rules.specs.Faults.{accepted, verdict}
 use Rattle.rules.proofs.Choices.{and-left, and-right}
-use Rattle.rules.proofs.NoLone.{isNoLone, NoLone}
+use Rattle.rules.proofs.NoLone.{NoLone}
 use Rattle.rules.proofs.ReadLines.{InSet, every-behind, lexemes-short}
 use Rattle.rules.proofs.BodyLines.{line-written, line-says, line-clean}
 use Rattle.rules.proofs.Accepted.{Known, readings, known-at}
-use Rattle.deck.specs.Slots.{Slot, DeckMacro, Deck, resolved, resolvedLine, deckMacro, deckIn, resolvedLibrary}
+use Rattle.deck.specs.Slots.{Slot, resolved, resolvedLine, deckMacro, deckIn, resolvedLibrary}
 use Rattle.deck.specs.Good.{isLexeme, areLexemes}
 use Rattle.deck.proofs.Lists.{All, all-mapped}
 

@@ -1,17 +1,16 @@
 -- The deck of an accepted library has at most 65,536 bytes: a line's code is at most 7 bytes longer than the line, and a macro's head is short.
-use Prim.Native.Nat.{ℕ, zero, suc, _+_, _*_, _≤_, _<_}
+use Prim.Native.Nat.{ℕ, _+_, _*_, _≤_, _<_}
 use native.Mathlib.Omega.{arith}
-use mathlib.Core.Path.{_≡_, refl, ap, sym, _∙_, subst}
+use mathlib.Core.Path.{_≡_, refl, ap}
 use mathlib.Core.List.{List, [], _∷_, _++_, map}
 use lib.ListN.{length, getD, length-map, length-append}
 use Rattle.text.specs.Bytes.{Bytes}
-use Rattle.rules.specs.Choice.{choose}
 use Rattle.rules.specs.Limits.{lineLimit, parameterLimit, localLimit}
 use Rattle.rules.specs.Lexemes.{Lex, unlexed}
 use Rattle.rules.specs.Fields.{linesOf}
 use Rattle.rules.specs.Statement.{Set, Line, Does, passes, ends, exits, text, models, sets, branchesIf, branches, counts, mapLex, mapDoes, mapLine, read}
 use Rattle.rules.specs.Library.{Macro, outer, macrosFrom, seconds, lineNamed}
-use Rattle.rules.specs.ByLines.{Reading, reading, noReading}
+use Rattle.rules.specs.ByLines.{Reading, reading}
 use Rattle.rules.specs.Faults.{accepted, verdict}
 use Rattle.rules.proofs.Logic
 use Rattle.rules.proofs.Symbols.{length-seconds}
@@ -23,7 +22,7 @@ use Rattle.rules.proofs.Within.{bodies, few-macros, few-body-lines}
 use Rattle.rules.proofs.Keywords.{keywordBytes}
 use Rattle.rules.proofs.Taken.{Taken, all-taken, is-known, title-written, own-locals, positionals-and-keywords, own-keywords}
 use Rattle.deck.specs.Coding.{Coder, byte, two, four, pair, via, putAll, listOf}
-use Rattle.deck.specs.Slots.{Slot, DeckMacro, Deck, resolved, resolvedLine, deckMacro, deckIn, resolvedLibrary}
+use Rattle.deck.specs.Slots.{Slot, DeckMacro, resolved, resolvedLine, deckMacro, deckIn, resolvedLibrary}
 use Rattle.deck.specs.Coders.{lexeme, field, string, kind, flag, putLineBy, line, partsOf, macro, contents, encoded}
 use Rattle.deck.specs.Translation.{deckOf}
 use Rattle.deck.proofs.Lists.{All, all-mapped}

@@ -2,12 +2,12 @@
 use Prim.Native.Nat.{ℕ, zero, suc, _≤_, _<_}
 use mathlib.Core.Path.{_≡_, refl, ap, sym, _∙_, subst}
 use mathlib.Core.Logic.{⊎-elim}
-use mathlib.Core.Bool.{Bool, true, false, _&&_, _||_, not}
+use mathlib.Core.Bool.{Bool, true, false, _||_}
 use mathlib.Core.List.{List, [], _∷_, _++_, map}
 use lib.Seq.{split-at}
 use lib.ListN.{length, getD, take, drop}
 use Rattle.text.specs.Bytes.{Bytes}
-use Rattle.rules.specs.Choice.{choose, any, every}
+use Rattle.rules.specs.Choice.{any, every}
 use Rattle.rules.specs.Limits.{lineLimit, nestLimit}
 use Rattle.rules.specs.Lexemes.{Lex, byte, mark, ref, lone, lexed, refsIn, isLong, isSequence}
 use Rattle.rules.specs.Fields.{isRemark, Fields, statementFields}
@@ -15,7 +15,7 @@ use Rattle.rules.specs.Statement.{Set, Statement, macro, mend, mexit, lo
 use Rattle.rules.specs.Grammar.{Kind}
 use Rattle.rules.specs.Library.{Names, namesIn}
 use Rattle.rules.specs.ByLines.{Reading}
-use Rattle.rules.specs.Faults.{kindNamed, kindsOf, isUnknownKind, hasUnknown, isLongSequence, isUsedTwice, hasBadBodyName, hasBadName}
+use Rattle.rules.specs.Faults.{kindNamed, kindsOf, isUnknownKind, hasUnknown, isLongSequence, hasBadBodyName, hasBadName}
 use Rattle.rules.proofs.Choices.{by, either}
 use Rattle.rules.proofs.Logic.{or-left, or-right}
 use Rattle.rules.proofs.Said.{statementOn, remark-says, statement-says}

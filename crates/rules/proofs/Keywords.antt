@@ -1,5 +1,5 @@
 -- The keywords of a prototype, with their defaults, are no longer than the line, and of its bytes.
-use Prim.Native.Nat.{ℕ, zero, suc, _+_, _≤_}
+use Prim.Native.Nat.{ℕ, suc, _+_, _≤_}
 use native.Mathlib.Omega.{arith}
 use mathlib.Core.Path.{_≡_, refl, ap, sym, _∙_, subst}
 use mathlib.Core.Bool.{Bool, true, false, _&&_}
@@ -9,13 +9,13 @@ use Rattle.text.specs.Bytes.{Bytes}
 use Rattle.text.specs.Characters.{inSet}
 use Rattle.rules.specs.Choice.{choose, every, onFirst}
 use Rattle.rules.specs.Lexemes.{ampersand, comma, Lex, byte, mark, ref, lone, lexed, unlexed, Inside, outside, enters, isBare}
-use Rattle.rules.specs.Fields.{Fields, fieldsOf}
+use Rattle.rules.specs.Fields.{fieldsOf}
 use Rattle.rules.specs.Calls.{parts, divided, equalsAt, hasEquals}
 use Rattle.rules.specs.Library.{startSymbol, withDefault, keywordNames, operandParts}
 use Rattle.rules.proofs.Choices.{either, and-right}
 use Rattle.rules.proofs.Logic.{All}
 use Rattle.rules.proofs.Lossless.{lexed-back}
-use Rattle.rules.proofs.ReadLines.{InSet, every-front, every-behind, unlexed-append, unlexed-split, Holds, fields-held}
+use Rattle.rules.proofs.ReadLines.{InSet, every-front, every-behind, unlexed-append, unlexed-split, fields-held}
 
 -- ---- the parts of an operand
 

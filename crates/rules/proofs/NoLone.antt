@@ -1,12 +1,12 @@
 -- What the grammar reads holds no ampersand left over: a rule goes past lexemes of which none is one. One law for each combinator and each rule.
-use Prim.Native.Nat.{ℕ, zero, suc, _≤_, _<_}
+use Prim.Native.Nat.{ℕ, zero, suc, _≤_}
 use native.Mathlib.Nat.{le-of-suc-le-suc, not-suc-le-zero}
 use native.Mathlib.Omega.{arith}
 use mathlib.Core.Path.{_≡_, refl, ap, sym, _∙_, subst}
-use mathlib.Core.Bool.{Bool, true, false, false≢true, _&&_, _||_, not}
-use mathlib.Core.List.{List, [], _∷_, map}
+use mathlib.Core.Bool.{Bool, true, false, false≢true, _&&_}
+use mathlib.Core.List.{List, [], _∷_}
 use mathlib.Core.Option.{Option, none, some}
-use lib.Dec.{eqb, ltb}
+use lib.Dec.{eqb}
 use lib.ListN.{length, take, drop, length-map}
 use Rattle.text.specs.Bytes.{Bytes, bytes, member, same}
 use Rattle.text.specs.Characters.{letter, digit, letterOrDigit}
@@ -18,8 +18,8 @@ use Rattle.rules.specs.Statement.{Set, setA, setB, setC, Line, Does, pas
 use Rattle.rules.specs.Values.{Relation, eq, ne, lt, le, gt, ge}
 use Rattle.rules.specs.Grammar
 use Rattle.rules.specs.Grammar.{Kind, parameter, symbol, syslist, sysndx, sysect, unknown, Reference, Got, got, refused, Sense, plain, rest, startsMark, isAttribute, pastSpaces, wordAt, isWord, relationAt, then, broken, given, closed, whole, goesOn, turn, chain}
-use Rattle.rules.specs.Form.{Nothing, form, isGot, isSymbolOf, isNamedBy, isOperandOf, isFormedBy, isFormed}
-use Rattle.rules.proofs.Choices.{by, either, and-left, and-right}
+use Rattle.rules.specs.Form.{form, isGot, isNamedBy, isOperandOf, isFormedBy, isFormed}
+use Rattle.rules.proofs.Choices.{either, and-left, and-right}
 use Rattle.rules.proofs.Logic.{clash}
 
 abbrev pub isNoLone : {R : Type 0} → Lex R → Bool

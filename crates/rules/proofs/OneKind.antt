@@ -17,13 +17,13 @@ use Rattle.rules.specs.Limits.{nestLimit, libraryLimit, localLimit, glob
 use Rattle.rules.specs.Lexemes.{lexed}
 use Rattle.rules.specs.Fields.{linesOf, startsWith, Fields, statementFields, isEmpty}
 use Rattle.rules.specs.Statement.{Set, setA, setB, setC, Statement, macro, mend, mexit, local, global, set, aif, ago, anop, actr, model, statementOf}
-use Rattle.rules.specs.Grammar.{Kind, symbol, unknown}
+use Rattle.rules.specs.Grammar.{symbol, unknown}
 use Rattle.rules.specs.Form.{sameSet, isFormed}
 use Rattle.rules.specs.Calls.{isAmong}
 use Rattle.rules.specs.Library.{Macro, Place, outer, atPrototype, inBody, isMacro, isMend, macrosFrom, startSymbols, ofKind, operandParts, globalsBy, localsOn, globalsOn, declaredIn, Names, namesIn, firsts, seconds, withGlobals, globalsOf}
 use Rattle.rules.specs.ByLines.{Reading, reading, noReading}
-use Rattle.rules.specs.Faults.{Around, noLines, declaresWrongly, isDeclared, hasLongSymbol, hasOtherKind, isLongSequence, hasUnknown, isUsedTwice, hasBadBodyName, hasBadName, kindsOf, isPast, isOverLimit, placeAfter, titlesAfter, globalsAfter, macrosAfter, aroundAfter, accepted, atEnd, verdictFrom, verdict}
-use Rattle.rules.proofs.Choices.{by, either, chosen, passed-over}
+use Rattle.rules.specs.Faults.{noLines, declaresWrongly, isDeclared, hasLongSymbol, hasOtherKind, isLongSequence, hasUnknown, isUsedTwice, hasBadBodyName, hasBadName, kindsOf, isPast, isOverLimit, placeAfter, titlesAfter, globalsAfter, macrosAfter, aroundAfter, accepted, atEnd, verdictFrom, verdict}
+use Rattle.rules.proofs.Choices.{either, passed-over}
 use Rattle.rules.proofs.Logic.{clash, or-left, or-right, All, all-same}
 use Rattle.rules.proofs.Accepted.{Faultless, refused, first-line, around, readings}
 

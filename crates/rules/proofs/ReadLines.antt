@@ -1,10 +1,10 @@
 -- What a line says: its fields are no longer than the line, their bytes are the line's, and a statement has the fields that it is carried out with, no other.
-use Prim.Native.Nat.{ℕ, zero, suc, _+_, _≤_, _<_}
+use Prim.Native.Nat.{ℕ, _+_, _≤_}
 use native.Mathlib.Omega.{arith}
 use mathlib.Core.Path.{_≡_, refl, ap, sym, _∙_, subst}
 use mathlib.Core.Logic.{⊎-elim}
-use mathlib.Core.Bool.{Bool, true, false, _&&_, _||_, not}
-use mathlib.Core.List.{List, [], _∷_, _++_, map, append-assoc}
+use mathlib.Core.Bool.{Bool, true, false, _&&_}
+use mathlib.Core.List.{List, [], _∷_, _++_, append-assoc}
 use lib.Dec.{ltb}
 use lib.ListN.{length, take, drop, length-append, take-append-drop}
 use borrow.Author.Tests.{not-false, ltb-false}
@@ -14,7 +14,7 @@ use Rattle.rules.specs.Choice.{choose, every}
 use Rattle.rules.specs.Limits.{lineLimit}
 use Rattle.rules.specs.Lexemes.{ampersand, apostrophe, Lex, byte, mark, ref, lone, lexed, unlexed, isSequence}
 use Rattle.rules.specs.Fields.{isIllWritten, isRemark, Fields, fieldsOf, noFields, statementFields}
-use Rattle.rules.specs.Statement.{Set, Statement, macro, mend, mexit, local, global, set, aif, ago, anop, actr, model, Does, passes, ends, exits, text, models, sets, branchesIf, branches, counts, Line, conditionEnd, isCopied, doing, modelOf, says, read}
+use Rattle.rules.specs.Statement.{Statement, macro, mend, mexit, local, global, set, aif, ago, anop, actr, model, Does, passes, ends, exits, text, models, sets, branchesIf, branches, counts, Line, conditionEnd, isCopied, doing, modelOf, says, read}
 use Rattle.rules.proofs.Choices.{by, either, and-left, and-right}
 use Rattle.rules.proofs.Logic.{or-left, or-right}
 use Rattle.rules.proofs.Lossless.{lexed-back, fields-back}

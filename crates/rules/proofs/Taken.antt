@@ -1,19 +1,19 @@
 -- A macro of an accepted library, with all that is known of it.
-use Prim.Native.Nat.{ℕ, suc, _+_, _≤_, _<_}
+use Prim.Native.Nat.{ℕ, _+_, _≤_, _<_}
 use native.Mathlib.Omega.{arith}
-use mathlib.Core.Path.{_≡_, refl, ap, sym, _∙_, subst}
-use mathlib.Core.List.{List, [], _∷_, _++_, map}
+use mathlib.Core.Path.{_≡_, refl, sym, subst}
+use mathlib.Core.List.{List, [], _∷_, _++_}
 use lib.ListN.{length, getD, length-append}
 use Rattle.text.specs.Bytes.{Bytes}
 use Rattle.rules.specs.Limits.{lineLimit, libraryLimit, parameterLimit, localLimit}
-use Rattle.rules.specs.Fields.{linesOf, fieldsOf, isIllWritten}
-use Rattle.rules.specs.Library.{Macro, outer, macrosFrom, operationOf, Names, namesIn, keywordNames, operandParts, firsts, parameterNames}
+use Rattle.rules.specs.Fields.{linesOf}
+use Rattle.rules.specs.Library.{Macro, outer, macrosFrom, operationOf, Names, namesIn, firsts, parameterNames}
 use Rattle.rules.specs.ByLines.{Reading, reading, noReading, ownNames}
 use Rattle.rules.specs.Faults.{accepted, verdict}
 use Rattle.rules.proofs.Logic.{All, all-map, all-at}
 use Rattle.rules.proofs.Symbols.{length-firsts}
 use Rattle.rules.proofs.Accepted.{Sound, Body, Known, all-sound, readings}
-use Rattle.rules.proofs.ReadLines.{InSet, Holds, statement-held, written-in}
+use Rattle.rules.proofs.ReadLines.{InSet, statement-held, written-in}
 use Rattle.rules.proofs.Within.{Prototype, bodies, all-prototypes, few-body-lines, few-parameters, few-locals}
 use Rattle.rules.proofs.Keywords.{keywordBytes, GoodKeyword, prototype-keywords}
 

@@ -1,9 +1,9 @@
 -- In an accepted library the limits are kept: its lines, its macros, each macro's parameters and locals; and each prototype stands without fault.
-use Prim.Native.Nat.{ℕ, zero, suc, _+_, _≤_, _<_}
+use Prim.Native.Nat.{ℕ, suc, _+_, _≤_, _<_}
 use native.Mathlib.Omega.{arith}
-use mathlib.Core.Path.{_≡_, refl, ap, sym, _∙_, subst}
-use mathlib.Core.Bool.{Bool, true, false, _&&_, _||_, not}
-use mathlib.Core.List.{List, [], _∷_, _++_, map, append-assoc, append-nil}
+use mathlib.Core.Path.{_≡_, refl, ap, _∙_, subst}
+use mathlib.Core.Bool.{Bool, true, false, _&&_, not}
+use mathlib.Core.List.{List, [], _∷_, _++_, append-assoc, append-nil}
 use lib.Dec.{leb, ltb}
 use lib.ListN.{length, drop, length-append}
 use borrow.Author.Tests.{leb-false, ltb-false}
@@ -11,14 +11,14 @@ use Rattle.text.specs.Bytes.{Bytes}
 use Rattle.rules.specs.Choice.{choose}
 use Rattle.rules.specs.Limits.{nestLimit, libraryLimit, macroLimit, parameterLimit, localLimit}
 use Rattle.rules.specs.Lexemes.{Lex, byte, mark, ref, lone, lexed, unlexed}
-use Rattle.rules.specs.Fields.{linesOf, Fields, fieldsOf, isEmpty}
+use Rattle.rules.specs.Fields.{linesOf, fieldsOf, isEmpty}
 use Rattle.rules.specs.Statement.{Set}
 use Rattle.rules.specs.Form.{isFormed}
 use Rattle.rules.specs.Calls.{equalsAt, hasEquals}
-use Rattle.rules.specs.Library.{Macro, Place, outer, atPrototype, inBody, isMacro, isMend, macrosFrom, startSymbol, positionalNames, withDefault, keywordNames, operandParts, localsOn, globalsOn, declaredIn, Names, namesIn, firsts, parameterNames, withGlobals}
+use Rattle.rules.specs.Library.{Macro, Place, outer, atPrototype, inBody, isMacro, isMend, macrosFrom, startSymbol, positionalNames, withDefault, keywordNames, operandParts, localsOn, globalsOn, declaredIn, namesIn, firsts, parameterNames, withGlobals}
 use Rattle.rules.specs.Faults.{Around, noLines, kindsOf, isPast, isOverLimit, placeAfter, titlesAfter, globalsAfter, macrosAfter, aroundAfter, accepted, atEnd, verdictFrom, verdict}
-use Rattle.rules.proofs.Choices.{by, either}
-use Rattle.rules.proofs.Logic.{clash, or-left, or-right, then-not, All}
+use Rattle.rules.proofs.Choices.{either}
+use Rattle.rules.proofs.Logic.{or-left, or-right, then-not, All}
 use Rattle.rules.proofs.Symbols.{length-firsts}
 use Rattle.rules.proofs.OneKind.{declared-in-turn}
 use Rattle.rules.proofs.Accepted.{Faultless, refused, first-line, around, Stands, Body, last, line}
