@@ -74,12 +74,12 @@ place-behind n (w ∷ s) t h = go (same w n) h (place-behind n s t)
 -- ---- names with their kinds
 
 module _ {X : Type 0} where
-  pub firsts-append : (s t : List (Bytes × X)) → firsts (s ++ t) ≡ firsts s ++ firsts t
+  firsts-append : (s t : List (Bytes × X)) → firsts (s ++ t) ≡ firsts s ++ firsts t
   unfolding firsts
   firsts-append [] t = refl
   firsts-append (a ∷ s) t = ap (λ (l : List Bytes). a .0 ∷ l) (firsts-append s t)
 
-  pub seconds-append : (s t : List (Bytes × X)) → seconds (s ++ t) ≡ seconds s ++ seconds t
+  seconds-append : (s t : List (Bytes × X)) → seconds (s ++ t) ≡ seconds s ++ seconds t
   unfolding seconds
   seconds-append [] t = refl
   seconds-append (a ∷ s) t = ap (λ (l : List X). a .1 ∷ l) (seconds-append s t)
