@@ -16,7 +16,8 @@ use Rattle.rules.proofs.Choices.{chosen, passed-over}
 use Rattle.deck.specs.Coding.{after, made, Coder, getByte, byte, two, four, pair, via, putAll, getAll, listOf}
 use Rattle.deck.specs.Slots.{Slot, own, shared, list, index, section, nowhere, DeckMacro, Deck}
 use Rattle.deck.specs.Coders.{markCode, ownCode, sharedCode, listCode, slotCode, lexCode, lexOf, lexeme, field, string, setCode, setOf, kind, flagCode, flagOf, flag, setsCode, putLineBy, setsLine, getSets, getModels, getText, getBranchIf, getBranch, getCounts, getLineBy, line, partsOf, macroOf, macro, deckFrom, contents, encoded, wholeDeck, versioned, counted, decoded}
-use Rattle.deck.proofs.Lists.{All, all-append}
+use Rattle.rules.proofs.Logic.{All}
+use Rattle.deck.proofs.Lists.{all-append}
 
 abbrev pub IsByte : ℕ → Type 0
 IsByte b = b < 256

@@ -19,7 +19,7 @@ use Rattle.rules.specs.Library.{Macro, isOneSymbol, startSymbol, startSymbols, 
 use Rattle.rules.specs.ByLines.{reading}
 use Rattle.rules.specs.Faults.{hasLongSymbol, declaresWrongly, beforeEquals, isDefault, isGoodPart, areGoodParts, accepted, verdict}
 use Rattle.rules.proofs.Choices.{by, either, chosen, passed-over, and-left, and-right}
-use Rattle.rules.proofs.Logic.{clash, or-left, or-right, else-so}
+use Rattle.rules.proofs.Logic.{All, clash, or-left, or-right, else-so}
 use Rattle.rules.proofs.Lossless.{lexed-back, fields-back}
 use Rattle.rules.proofs.Walked.{Proper}
 use Rattle.rules.proofs.Prototypes.{none-long, declared-well, parts-good}
@@ -27,7 +27,6 @@ use Rattle.rules.proofs.Pieces.{byte-is, Piece, parts-stand, every-append, ever
 use Rattle.rules.proofs.Defaults.{default-again}
 use Rattle.deck.specs.Slots.{deckMacro}
 use Rattle.deck.specs.Good.{areDistinctKeywords, isKeyword}
-use Rattle.deck.proofs.Lists.{All}
 use Rattle.deck.proofs.Tests.{none-in-both, none-in-parts}
 use Rattle.deck.proofs.Macros.{Each, each-macro}
 

@@ -13,3 +13,6 @@ pub mod Lines
 pub mod Limits
 pub mod SlotKinds
 pub mod Library
+pub mod InOrder
+pub mod Fits
+pub mod Size

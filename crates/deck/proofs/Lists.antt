@@ -1,12 +1,10 @@
 -- Laws of lists: a fact of each element, one map after another. Assumes nothing.
-use Prim.Native.Nat.{ℕ, zero, suc}
+use Prim.Native.Nat.{ℕ, zero, suc, _<_}
+use native.Mathlib.Omega.{arith}
 use mathlib.Core.Path.{_≡_, refl, ap}
 use mathlib.Core.List.{List, [], _∷_, _++_, map}
 use lib.ListN.{length, getD, replicate}
-
-abbrev pub All : {A : Type 0} → (A → Type 0) → List A → Type 0
-All P [] = Unit {0}
-All P (a ∷ l) = P a × All P l
+use Rattle.rules.proofs.Logic.{All}
 
 pub all-append : {A : Type 0} (P : A → Type 0) (s t : List A) → All P s → All P t → All P (s ++ t)
 all-append P [] t h k = k
@@ -26,3 +24,8 @@ map-map f g e (a ∷ l) = λ i. e a i ∷ map-map f g e l i
 pub map-constant : {A B : Type 0} (b : B) (l : List A) → map (λ a. b) l ≡ replicate (length l) b
 map-constant b [] = refl
 map-constant b (a ∷ l) = ap (b ∷_) (map-constant b l)
+
+-- a fact of each place is one of each element
+pub all-mapped : {A B : Type 0} (P : B → Type 0) (f : A → B) (l : List A) (d : A) → ((i : ℕ) → i < length l → P (f (getD l i d))) → All P (map f l)
+all-mapped P f [] d h = tt
+all-mapped P f (a ∷ l) d h = (h 0 (omega arith), all-mapped P f l d (λ i k. h (suc i) (omega arith)))

@@ -24,7 +24,8 @@ use Rattle.deck.specs.Slots.{Deck, systemSlot, resolved, resolvedLine, d
 use Rattle.deck.specs.Coders.{decoded}
 use Rattle.deck.specs.Good.{isGood, ifGood, goodDeck}
 use Rattle.deck.specs.ByDeck.{deckAnswer, deckExpansion, byDeck}
-use Rattle.deck.proofs.Lists.{All, all-getD, map-map, map-constant}
+use Rattle.rules.proofs.Logic.{All}
+use Rattle.deck.proofs.Lists.{all-getD, map-map, map-constant}
 
 -- a function of a choice, where each branch is known
 into-choice : {A B : Type 0} (f : A → B) (b : Bool) {x y : A} {u v : B} → (b ≡ true → f x ≡ u) → (b ≡ false → f y ≡ v) → f (choose b x y) ≡ choose b u v

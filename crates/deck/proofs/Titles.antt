@@ -10,14 +10,14 @@ use Rattle.rules.specs.Statement.{Set}
 use Rattle.rules.specs.Library.{Macro, outer, macrosFrom, operationOf, globalsOf}
 use Rattle.rules.specs.ByLines.{reading}
 use Rattle.rules.specs.Faults.{accepted, verdict}
-use Rattle.rules.proofs.Logic.{or-left}
+use Rattle.rules.proofs.Logic.{All, or-left}
 use Rattle.rules.proofs.Symbols.{same-sym}
 use Rattle.rules.proofs.Accepted.{readings}
 use Rattle.rules.proofs.Walked.{Found, none, other, found, all-found}
 use Rattle.rules.proofs.Prototypes.{title-new}
 use Rattle.deck.specs.Slots.{deckMacro, deckIn, resolvedLibrary}
 use Rattle.deck.specs.Good.{areDistinct}
-use Rattle.deck.proofs.Lists.{All, map-map}
+use Rattle.deck.proofs.Lists.{map-map}
 use Rattle.deck.proofs.Tests.{none-in-parts}
 
 abbrev titleOf : Macro → Bytes

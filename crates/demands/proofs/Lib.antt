@@ -8,3 +8,4 @@ pub mod Computed
 pub mod SetBySequence
 pub mod Tested
 pub mod RenamingExample
+pub mod Demands

@@ -77,7 +77,7 @@ statement-speaks l f anop = inr refl
 statement-speaks l f actr = inr refl
 statement-speaks l f model = inr refl
 
-line-speaks : (l : Bytes) → ((d : Does Bytes) × (read l ≡ doing d)) ⊎ (endsDeclarations l ≡ true)
+pub line-speaks : (l : Bytes) → ((d : Does Bytes) × (read l ≡ doing d)) ⊎ (endsDeclarations l ≡ true)
 line-speaks l =
     by (isRemark l) (λ e. ⊎-elim (λ q. inl (text l, q)) (λ q. inl (passes, q)) (remark-says l e))
     (λ e. ⊎-elim (λ q. inl (q .0, statement-says l e ∙ q .1)) (λ q. inr (ends-there l e q)) (statement-speaks l (statementFields l) (statementOn l)))
@@ -146,7 +146,7 @@ rest-silent (last {l = l} e x) h = one-silent l [] (line-silent x h) none-silent
 rest-silent (line {before = before} {l = l} {ls = ls} e x b) h =
     one-silent l ls (line-silent x h) (rest-silent b (any-in-front endsDeclarations before (l ∷ []) h))
 
-from-silent : {p : Bytes} {before rest : List Bytes} {l : Bytes} → Body p before (l ∷ rest) → endsDeclarations l ≡ true → Undeclared (l ∷ rest)
+pub from-silent : {p : Bytes} {before rest : List Bytes} {l : Bytes} → Body p before (l ∷ rest) → endsDeclarations l ≡ true → Undeclared (l ∷ rest)
 from-silent (last {l = l} e x) h = one-silent l [] (ending-silent l h) none-silent
 from-silent (line {before = before} {l = l} {ls = ls} e x b) h =
     one-silent l ls (ending-silent l h) (rest-silent b (any-behind endsDeclarations before (l ∷ []) (any-first endsDeclarations l [] h)))
@@ -157,7 +157,7 @@ declared-append on [] t h = h
 declared-append on (l ∷ s) t h = ap (λ (r : List (Bytes × Set)). on l ++ r) (declared-append on s t h)
 
 -- so the names before it are all of the macro's names
-names-settled : (p : Bytes) (s t : List Bytes) → Undeclared t → namesIn p (s ++ t) ≡ namesIn p s
+pub names-settled : (p : Bytes) (s t : List Bytes) → Undeclared t → namesIn p (s ++ t) ≡ namesIn p s
 unfolding namesIn
 names-settled p s t u = λ i. record {
   name = namesIn p s .name;

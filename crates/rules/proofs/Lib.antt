@@ -21,5 +21,12 @@ pub mod Texts
 pub mod Counting
 pub mod Symbols
 pub mod FormedLines
+pub mod OneKind
+pub mod NoLone
+pub mod ReadLines
+pub mod BodyLines
+pub mod Within
+pub mod Keywords
+pub mod Taken
 pub mod Refusals
 pub mod Library

@@ -80,3 +80,7 @@ pub all-at : {A : Type 0} (P : A → Type 0) (l : List A) (d : A) (i : ℕ) → 
 all-at P [] d i h lt = absurd (not-suc-le-zero lt)
 all-at P (a ∷ l) d zero h lt = h .0
 all-at P (a ∷ l) d (suc i) h lt = all-at P l d i (h .1) (le-of-suc-le-suc lt)
+
+pub all-same : {A : Type 0} (P Q : A → Type 0) → ((a : A) → P a → Q a) → (l : List A) → All P l → All Q l
+all-same P Q g [] h = tt
+all-same P Q g (a ∷ l) h = (g a (h .0), all-same P Q g l (h .1))

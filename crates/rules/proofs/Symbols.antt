@@ -127,7 +127,7 @@ module _ (names : Names) (globals : List (Bytes × Set)) (l : Level) (vs : List 
   unfolding cellNamed ownCell
   own-cell h = ap (λ (c : Cell). c .kind) (chosen _ _ (lt-ltb _ _ h))
 
-  other-cell : length (ownNames names) ≤ placeAmong (ownNames names) n
+  pub other-cell : length (ownNames names) ≤ placeAmong (ownNames names) n
       → cellNamed names globals l vs n .kind
       ≡ choose (ltb (placeAmong (firsts (names .globals)) n) (length (names .globals))) (symbol (getD (seconds (names .globals)) (placeAmong (firsts (names .globals)) n) setA)) (systemKind n)
   unfolding cellNamed sharedCell
