@@ -98,7 +98,7 @@ behind (last e s) lt = absurd (not-suc-le-zero lt)
 behind (line e s b) lt = b
 
 -- the body from a line on
-pub body-from : (p : Bytes) (before b : List Bytes) (i : ℕ) → Body p before b → i < length b → Body p (before ++ take i b) (drop i b)
+body-from : (p : Bytes) (before b : List Bytes) (i : ℕ) → Body p before b → i < length b → Body p (before ++ take i b) (drop i b)
 body-from p before [] i h lt = absurd (not-suc-le-zero lt)
 body-from p before (l ∷ ls) zero h lt = subst (λ s. Body p s (l ∷ ls)) (sym (append-nil before)) h
 body-from p before (l ∷ ls) (suc i) h lt =

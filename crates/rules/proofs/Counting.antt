@@ -84,7 +84,7 @@ up-to-mend s more (line {l = l} {ls = ls} e x b) h =
 
 -- ---- ACTR lines
 
-abbrev pub isActr : Statement → Bool
+abbrev isActr : Statement → Bool
 isActr macro = false
 isActr mend = false
 isActr mexit = false
