@@ -1,0 +1,3 @@
+pub mod Depth
+pub mod Scan
+pub mod Cut
