@@ -26,7 +26,7 @@ pub fn expand(
     output: &mut [u8],
     workspace: &mut [u8],
 ) -> Result<Expanded, Refusal> {
-    let answer = expand_into(library, program, output, workspace.len());
+    let answer = watched(library, program, output, workspace.len(), |_| {});
     // "its first 32,768 are zero after every expansion, the others unchanged. Too short, it stays unchanged."
     if workspace.len() >= WORKSPACE {
         workspace[..WORKSPACE].fill(0);
@@ -38,7 +38,14 @@ pub fn expand(
     answer
 }
 
-fn expand_into(library: &Library, program: &[u8], output: &mut [u8], workspace: usize) -> Result<Expanded, Refusal> {
+/// The run of an expansion. `watch` sees it before its first line, and after every line that is not refused.
+pub(crate) fn watched(
+    library: &Library,
+    program: &[u8],
+    output: &mut [u8],
+    workspace: usize,
+    mut watch: impl FnMut(&Run),
+) -> Result<Expanded, Refusal> {
     let at_once = |number| Refusal { number, open_line: 0, body_line: 0, steps: 0 };
     // "Expansion: 13, 12, 5 (all line 0), then as run."
     if workspace < WORKSPACE {
@@ -49,6 +56,8 @@ fn expand_into(library: &Library, program: &[u8], output: &mut [u8], workspace: 
     }
     let mut run = Run {
         library,
+        program: lines(program),
+        read: 0,
         globals: Vec::new(),
         levels: Vec::new(),
         calls: 0,
@@ -58,42 +67,47 @@ fn expand_into(library: &Library, program: &[u8], output: &mut [u8], workspace: 
         lines: 0,
         steps: 0,
     };
-    for (at, line) in lines(program).into_iter().enumerate() {
-        run.open_line(line).and_then(|()| run.inner_lines()).map_err(|number| Refusal {
+    watch(&run);
+    while let Some(done) = run.next_line() {
+        done.map_err(|number| Refusal {
             number,
-            open_line: at + 1,
+            open_line: run.read,
             body_line: run.levels.last().map_or(0, |level| level.line + 1),
             steps: run.steps,
         })?;
+        watch(&run);
     }
     Ok(Expanded { lines: run.lines, steps: run.steps, bytes: run.written })
 }
 
 /// A running macro: its own values, counter, number and place.
-struct Level {
-    of: Macro,
+pub(crate) struct Level {
+    pub of: Macro,
     /// the body line that is run, counted from 0
-    line: usize,
-    counter: i64,
-    number: u32,
-    sysect: Vec<u8>,
+    pub line: usize,
+    pub counter: i64,
+    pub number: u32,
+    pub sysect: Vec<u8>,
     /// &SYSLIST: the name, then the positionals
-    syslist: Vec<Vec<u8>>,
-    parameters: Vec<(Vec<u8>, Vec<u8>)>,
-    locals: Vec<(Vec<u8>, Value)>,
+    pub syslist: Vec<Vec<u8>>,
+    pub parameters: Vec<(Vec<u8>, Vec<u8>)>,
+    pub locals: Vec<(Vec<u8>, Value)>,
 }
 
-struct Run<'a> {
-    library: &'a Library<'a>,
-    globals: Vec<(Vec<u8>, Value)>,
+pub(crate) struct Run<'a> {
+    pub library: &'a Library<'a>,
+    pub program: Vec<&'a [u8]>,
+    /// how many of the program's lines are read
+    pub read: usize,
+    pub globals: Vec<(Vec<u8>, Value)>,
     /// the innermost last
-    levels: Vec<Level>,
-    calls: u32,
-    sysect: Vec<u8>,
-    output: &'a mut [u8],
-    written: usize,
+    pub levels: Vec<Level>,
+    pub calls: u32,
+    pub sysect: Vec<u8>,
+    pub output: &'a mut [u8],
+    pub written: usize,
     lines: usize,
-    steps: u64,
+    pub steps: u64,
 }
 
 /// A level's names, beside the globals that all levels share.
@@ -102,7 +116,7 @@ struct Here<'a> {
     globals: &'a [(Vec<u8>, Value)],
 }
 
-fn search<'a, T>(pairs: &'a [(Vec<u8>, T)], name: &[u8]) -> Option<&'a T> {
+pub(crate) fn search<'a, T>(pairs: &'a [(Vec<u8>, T)], name: &[u8]) -> Option<&'a T> {
     pairs.iter().find(|p| p.0 == name).map(|p| &p.1)
 }
 
@@ -164,10 +178,22 @@ impl From<IllFormed> for u8 {
 }
 
 impl Run<'_> {
+    /// The next line: the innermost macro's, or where none runs the program's; none where that is at its end.
+    fn next_line(&mut self) -> Option<Done> {
+        if let Some(level) = self.levels.last() {
+            let line = self.library.body(level.of)[level.line];
+            self.steps += 1;
+            return Some(self.body_line(line));
+        }
+        let line = *self.program.get(self.read)?;
+        self.read += 1;
+        self.steps += 1;
+        Some(self.open_line(line))
+    }
+
     /// X1: "1; a remark or a line with no operation is copied; a language word as operation is 15; a macro's name is a call; else
     /// copied, whatever `&` it has."
     fn open_line(&mut self, line: &[u8]) -> Done {
-        self.steps += 1;
         if ill_written(line) {
             return Err(BAD_BYTE);
         }
@@ -181,16 +207,6 @@ impl Run<'_> {
             Some(called) => self.call_as_written(called, &f),
             None => self.put_line(line),
         }
-    }
-
-    /// The lines of the macros that run, until open code goes on.
-    fn inner_lines(&mut self) -> Done {
-        while let Some(level) = self.levels.last() {
-            let line = self.library.body(level.of)[level.line];
-            self.steps += 1;
-            self.body_line(line)?;
-        }
-        Ok(())
     }
 
     fn body_line(&mut self, line: &[u8]) -> Done {
@@ -400,7 +416,7 @@ impl Run<'_> {
     }
 }
 
-fn start(set: Set) -> Value {
+pub(crate) fn start(set: Set) -> Value {
     match set {
         Set::A => Value::A(0),
         Set::B => Value::B(false),

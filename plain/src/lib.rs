@@ -10,6 +10,7 @@ pub mod gen;
 pub mod grammar;
 pub mod lines;
 pub mod refusals;
+pub mod states;
 pub mod values;
 
 pub use definitions::Library;

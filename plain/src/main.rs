@@ -1,6 +1,7 @@
-//! `plain expand DIR`, `plain batch`, `plain gen SEED COUNT PROFILE`, `plain stats SEED COUNT [PROFILE]`: see README.md.
+//! `plain expand DIR`, `plain batch`, `plain states EVERY`, `plain gen SEED COUNT PROFILE`, `plain stats SEED COUNT [PROFILE]`:
+//! see README.md.
 
-use plain::{batch, gen, printed};
+use plain::{batch, gen, printed, states};
 use std::io::{self, BufReader, BufWriter, Write};
 use std::path::Path;
 use std::process::ExitCode;
@@ -11,6 +12,7 @@ fn main() -> ExitCode {
     let answer = match words.as_slice() {
         ["expand", folder] => expand_folder(Path::new(folder)),
         ["batch"] => batch::run(&mut BufReader::new(io::stdin().lock()), &mut BufWriter::new(io::stdout().lock())),
+        ["states", every] => every_state(every),
         ["gen", seed, count, profile] => generate(seed, count, profile),
         ["stats", seed, count] => stats(seed, count, &gen::PROFILES),
         ["stats", seed, count, profile] => stats(seed, count, &[profile]),
@@ -28,8 +30,14 @@ fn main() -> ExitCode {
 fn usage() -> io::Error {
     let profiles = gen::PROFILES.join(" ");
     io::Error::other(format!(
-        "usage: plain expand DIR | plain batch | plain gen SEED COUNT PROFILE | plain stats SEED COUNT [PROFILE]\nprofiles: {profiles}"
+        "usage: plain expand DIR | plain batch | plain states EVERY | plain gen SEED COUNT PROFILE | plain stats SEED COUNT [PROFILE]\nprofiles: {profiles}"
     ))
+}
+
+/// The states of the cases on standard input, after every so many lines.
+fn every_state(every: &str) -> io::Result<()> {
+    let every = every.parse().ok().filter(|&n| n > 0).ok_or_else(usage)?;
+    states::run(every, &mut BufReader::new(io::stdin().lock()), &mut BufWriter::new(io::stdout().lock()))
 }
 
 /// Generated cases, in the batch format.
