@@ -30,7 +30,7 @@ use Rattle.rules.proofs.Ends.{Steady, Closed, Stops}
 use Rattle.rules.proofs.Refusals.{Sound, refusals}
 use Rattle.deck.specs.Slots.{Slot, own, shared, list, index, section, nowhere, DeckMacro, Deck, parameters, noMacro, noLine, slotKind, held, deckHeader, machineOfDeck}
 use Rattle.rules.specs.Faults.{isMacroName}
-use Rattle.deck.specs.Good.{areLexemes, areDistinct, areDistinctKeywords, isKeyword, totalLines, isTarget, isInOrder, isLine, doesEnd, endsOnce, doesCount, mayPrecede, actrEnd, countsOnce, isMacro, isGood, isText, isStatementText, ifGood, goodDeck}
+use Rattle.deck.specs.Good.{areLexemes, areDistinct, areDistinctKeywords, isKeyword, totalLines, isTarget, isInOrder, isLine, doesEnd, endsOnce, doesCount, mayPrecede, actrEnd, countsOnce, isMacro, isSound, isReadMacro, isGood, isText, isStatementText, ifGood, goodDeck}
 use Rattle.deck.specs.Coders.{decoded}
 use Rattle.deck.specs.ByDeck.{deckAnswer, deckExpansion, byDeck}
 use Rattle.deck.proofs.Same.{mapLine-mapLine}
@@ -54,10 +54,10 @@ last-of-five : (a b c e f : Bool) → (a && (b && (c && (e && f)))) ≡ true →
 last-of-five a b c e f h = and-right e f (and-right c (e && f) (and-right b (c && (e && f)) (and-right a (b && (c && (e && f))) h)))
 
 good-macros : (d : Deck) → isGood d ≡ true → every (isMacro (d .globals)) (d .macros) ≡ true
-unfolding isGood
+unfolding isGood isSound
 good-macros d h =
     last-of-five (leb (length (d .globals)) globalLimit) (leb (length (d .macros)) macroLimit) (leb (totalLines (d .macros)) libraryLimit)
-    (areDistinct (map (λ m. m .title) (d .macros))) (every (isMacro (d .globals)) (d .macros)) h
+    (areDistinct (map (λ m. m .title) (d .macros))) (every (isMacro (d .globals)) (d .macros)) (and-left (isSound d) (every isReadMacro (d .macros)) h)
 
 record GoodMacro (globals : List Set) (m : DeckMacro) : Type 0 where
   ended : endsOnce (m .lines) ≡ true

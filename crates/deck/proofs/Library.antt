@@ -12,7 +12,7 @@ use Rattle.rules.specs.Form.{isFormed}
 use Rattle.rules.specs.Faults.{accepted, verdict}
 use Rattle.rules.proofs.Choices.{and-left, and-right}
 use Rattle.deck.specs.Slots.{Slot, DeckMacro, slotKind, noMacro, resolvedLibrary}
-use Rattle.deck.specs.Good.{areLexemes, isInOrder, isLine, actrEnd, isMacro, isGood}
+use Rattle.deck.specs.Good.{areLexemes, isInOrder, isLine, actrEnd, isMacro, isSound}
 use Rattle.deck.proofs.Tests.{every-each}
 use Rattle.deck.proofs.Macros.{Each}
 use Rattle.deck.proofs.Titles.{distinct-titles}
@@ -43,8 +43,8 @@ lines-good gs m a n (l ∷ ls) c o x f =
     λ i. (o₁ i && (x₂ i && (x₄ i && (x₅ i && f₁ i))))
     && lines-good gs m a n ls c (and-right (isInOrder a n (l .does)) _ o) (and-right (hasLexemes l) _ x) (and-right formed _ f) i
 
-pub good-but-lexemes : (library : Bytes) → verdict library ≡ accepted → OneKind library → Each library (λ m. every hasLexemes (m .lines) ≡ true) → isGood (resolvedLibrary library) ≡ true
-unfolding isGood isMacro
+pub good-but-lexemes : (library : Bytes) → verdict library ≡ accepted → OneKind library → Each library (λ m. every hasLexemes (m .lines) ≡ true) → isSound (resolvedLibrary library) ≡ true
+unfolding isSound isMacro
 good-but-lexemes library e agree lexemes =
     let d = resolvedLibrary library in
     let macros : every (isMacro (d .globals)) (d .macros) ≡ true =

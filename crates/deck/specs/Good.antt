@@ -18,6 +18,7 @@ use Rattle.rules.specs.Machine.{isLanguageWord}
 use Rattle.rules.specs.Faults.{isMacroName, isDefault}
 use Rattle.deck.specs.Slots.{Slot, own, shared, list, index, section, nowhere, DeckMacro, Deck, parameters, slotKind}
 use Rattle.deck.specs.Coders.{decoded}
+use Rattle.deck.specs.AsRead.{isReadLine, isReadDefault}
 
 -- the names are told apart
 unfoldable pub areDistinct : List Bytes → Bool
@@ -131,10 +132,18 @@ unfoldable pub totalLines : List DeckMacro → ℕ
 totalLines [] = 0
 totalLines (m ∷ ms) = length (m .lines) + totalLines ms
 
-unfoldable pub isGood : Deck → Bool
-isGood d =
+-- everything is in range, well formed and in order
+unfoldable pub isSound : Deck → Bool
+isSound d =
     leb (length (d .globals)) globalLimit && (leb (length (d .macros)) macroLimit && (leb (totalLines (d .macros)) libraryLimit
     && (areDistinct (map (λ m. m .title) (d .macros)) && every (isMacro (d .globals)) (d .macros))))
+
+-- the lines and defaults of a macro are as the reader gives them
+unfoldable pub isReadMacro : DeckMacro → Bool
+isReadMacro m = every isReadLine (m .lines) && every (λ k. isReadDefault (k .1)) (m .keywords)
+
+unfoldable pub isGood : Deck → Bool
+isGood d = isSound d && every isReadMacro (d .macros)
 
 -- the deck that bytes in good form stand for; none where they are not
 unfoldable pub ifGood : Option Deck → Option Deck
