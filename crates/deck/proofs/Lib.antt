@@ -16,3 +16,4 @@ pub mod Library
 pub mod InOrder
 pub mod Fits
 pub mod Size
+pub mod LexedRead
