@@ -9,7 +9,6 @@ use lib.ListN.{length}
 use borrow.Author.Tests.{lt-ltb, le-ltb}
 use Rattle.text.specs.Bytes.{Bytes, bytes, same}
 use Rattle.text.specs.Words.{placeAmong}
-use Rattle.rules.specs.Choice.{choose}
 use Rattle.rules.specs.Statement.{Set}
 use Rattle.rules.specs.Library.{Names, firsts}
 use Rattle.rules.specs.ByLines.{ownNames}

@@ -3,8 +3,7 @@ use Prim.Native.Nat.{ℕ, zero, suc, _+_, _*_, _-_, _/_, _≤_, _<_}
 use native.Mathlib.Omega.{arith}
 use mathlib.Core.Path.{_≡_, refl, ap, sym, _∙_}
 use mathlib.Core.Bool.{true, false}
-use mathlib.Core.List.{List, [], _∷_, _++_}
-use lib.ListN.{length, getD, take, drop, replicate, length-take, length-drop, length-append, length-replicate, List·getD-append, getD-replicate}
+use lib.ListN.{length, getD, take, drop, length-take, length-drop, length-append, length-replicate, List·getD-append, getD-replicate}
 use lib.Seq.{getD-take, getD-drop, getD-append-add, length-take-le}
 use Rattle.text.specs.Bytes.{Bytes, same}
 use Rattle.text.specs.Words.{placeAmong}

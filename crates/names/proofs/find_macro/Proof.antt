@@ -1,5 +1,6 @@
 -- `find_macro` meets its contract. Outer loop: no row passed holds the name. Inner loop: the row and the name agree so far. Assumes nothing.
-use Prim.Native.Nat.{ℕ, _≤_, _<_, _-_, _/_}
+use borrow.Author.Needs.{needs}
+use Prim.Native.Nat.{_≤_, _<_, _-_, _/_}
 use native.Mathlib.Nat.{zero-add}
 use mathlib.Core.Path.{_≡_, sym, _∙_}
 use lib.ListN.{length, take, drop}
@@ -8,7 +9,6 @@ use Rattle.text.specs.Words.{placeAmong}
 use Rattle.names.specs.Names.{titlesIn, padded}
 use Rattle.names.proofs.Rows.{from, row-found, row-next, rows-ended}
 use Rattle.names.proofs.Titles.{row, long-name, byte-differs, byte-agrees, whole}
-use borrow.Author.Needs.{needs}
 use Rattle.names.proofs.find_macro.Statement.{statement}
 use Rattle.names.proofs.find_macro.Tie as tie
 

@@ -1,6 +1,6 @@
 -- `name_at` meets its contract: the part that it cuts is the name in the row. Assumes nothing.
-use Rattle.names.proofs.Rows.{name-cut}
 use borrow.Author.Needs.{needs}
+use Rattle.names.proofs.Rows.{name-cut}
 use Rattle.names.proofs.name_at.Statement.{statement}
 use Rattle.names.proofs.name_at.Tie as tie
 

@@ -1,6 +1,6 @@
 -- `padded_byte` meets its contract: a byte of the name, or a blank behind it. Assumes nothing.
-use Rattle.names.proofs.Titles.{name-byte, blank-byte}
 use borrow.Author.Needs.{needs}
+use Rattle.names.proofs.Titles.{name-byte, blank-byte}
 use Rattle.names.proofs.padded_byte.Statement.{statement}
 use Rattle.names.proofs.padded_byte.Tie as tie
 

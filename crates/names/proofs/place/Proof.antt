@@ -1,4 +1,5 @@
 -- `place` meets its contract. The loop's invariant: none of the rows passed holds the name. Assumes nothing.
+use borrow.Author.Needs.{needs}
 use Prim.Native.Nat.{_/_, _≤_, _<_, _-_}
 use native.Mathlib.Nat.{zero-add}
 use mathlib.Core.Path.{_≡_, ap, sym, _∙_}
@@ -7,7 +8,6 @@ use Rattle.text.specs.Bytes.{same}
 use Rattle.text.specs.Words.{placeAmong}
 use Rattle.names.specs.Names.{nameIn, namesIn}
 use Rattle.names.proofs.Rows.{from, row-found, row-next, rows-ended, row-fits}
-use borrow.Author.Needs.{needs}
 use Rattle.names.proofs.place.Statement.{statement}
 use Rattle.names.proofs.place.Tie as tie
 

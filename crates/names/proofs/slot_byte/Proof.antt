@@ -1,9 +1,9 @@
 -- `slot_byte` meets its contract: by the three searches. Assumes nothing.
+use borrow.Author.Needs.{needs}
 use Prim.Native.Nat.{ℕ, _+_, min}
-use mathlib.Core.Path.{ap, sym, _∙_}
+use mathlib.Core.Path.{ap, _∙_}
 use Rattle.deck.specs.Coders.{ownCode, sharedCode, noCode}
 use Rattle.names.proofs.Slots.{is-there, is-not, own-byte, shared-byte, other-byte}
-use borrow.Author.Needs.{needs}
 use Rattle.names.proofs.slot_byte.Statement.{statement}
 use Rattle.names.proofs.slot_byte.Tie as tie
 

@@ -1,7 +1,7 @@
 -- `system_byte` meets its contract: by the three comparisons. Assumes nothing.
+use borrow.Author.Needs.{needs}
 use mathlib.Core.Path.{sym, _∙_}
 use Rattle.names.proofs.Slots.{is-list, is-index, is-section, is-none}
-use borrow.Author.Needs.{needs}
 use Rattle.names.proofs.system_byte.Statement.{statement}
 use Rattle.names.proofs.system_byte.Tie as tie
 

@@ -1,0 +1,5 @@
+pub mod Marks
+pub mod Lexed
+pub mod Pieces
+pub mod Writes
+pub mod Resolved
