@@ -1,9 +1,8 @@
 -- What the definition's reader does with a list, piece by piece. Assumes nothing.
 use Prim.Native.Nat.{ℕ, zero, suc, _≤_}
 use native.Mathlib.Nat.{not-suc-le-zero, le-of-suc-le-suc}
-use native.Mathlib.Omega.{arith}
 use mathlib.Core.Path.{_≡_, refl, ap, sym, _∙_}
-use mathlib.Core.Bool.{Bool, true, false, _&&_, _||_, not, and-false}
+use mathlib.Core.Bool.{Bool, true, false, false≢true, _&&_, _||_, not, and-false}
 use mathlib.Core.List.{List, [], _∷_, _++_, map, append-assoc, append-nil}
 use lib.Dec.{eqb}
 use lib.ListN.{length, getD, take, drop}
@@ -22,12 +21,9 @@ moved b c = record { second = b .first; first = c; quoted = b .quoted }
 
 -- a letter or digit is no ampersand and no apostrophe
 no-sign : (c d : ℕ) → letterOrDigit d ≡ false → letterOrDigit c ≡ true → eqb c d ≡ false
-no-sign c d f t = by (eqb c d) (λ e. absurd (false-true (sym (ap letterOrDigit (eqb-true c d e) ∙ f) ∙ t))) (λ e. e)
-  where
-    false-true : false ≡ true → ⊥
-    false-true e = let z : _≡_ {A = ℕ} 0 1 = ap (λ (b : Bool). elim b [ true ↦ 1 | false ↦ 0 ]) e in absurd (omega arith)
+no-sign c d f t = by (eqb c d) (λ e. absurd (false≢true (sym (ap letterOrDigit (eqb-true c d e) ∙ f) ∙ t))) (λ e. e)
 
-pub letter-counts : (c : ℕ) → letter c ≡ true → letterOrDigit c ≡ true
+letter-counts : (c : ℕ) → letter c ≡ true → letterOrDigit c ≡ true
 unfolding letterOrDigit
 letter-counts c e = ap (λ (b : Bool). b || digit c) e
 
@@ -79,7 +75,7 @@ module _ (quotes : Bool) (b : Before) (c : ℕ) (s : Bytes) (e : letterOrDigit c
   unfolding letterOrDigit letter digit
   no-apostrophe = no-sign c apostrophe refl e
 
-  pub no-ampersand : eqb c ampersand ≡ false
+  no-ampersand : eqb c ampersand ≡ false
   unfolding letterOrDigit letter digit
   no-ampersand = no-sign c ampersand refl e
 
@@ -133,7 +129,7 @@ module _ (f : Bytes → ℕ) (quotes : Bool) where
       ∙ sym (into (ref n ∷_) (eqb (byteOf x) ampersand) (symbols afterAmpersand t) (x ∷ symbols inText t)))
 
   -- a symbol that has begun: all letters and digits from here on are its
-  pub symbol-rest : (s : Bytes) (b : Before) (n : Bytes) → map (codeBy f) (symbols (inSymbol n) (marked quotes b s))
+  symbol-rest : (s : Bytes) (b : Before) (n : Bytes) → map (codeBy f) (symbols (inSymbol n) (marked quotes b s))
       ≡ f (n ++ take (run letterOrDigit s) s) ∷ codesFrom f quotes (carried b (take (run letterOrDigit s) s)) (drop (run letterOrDigit s) s)
   unfolding codesFrom marked symbols byteOf codeBy run
   symbol-rest [] b n = ap (λ m. f m ∷ []) (sym (append-nil n))

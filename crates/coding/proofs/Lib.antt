@@ -3,3 +3,4 @@ pub mod Lexed
 pub mod Pieces
 pub mod Writes
 pub mod Resolved
+pub mod Worked
