@@ -163,7 +163,7 @@ impl<'a> Library<'a> {
         fields(self.lines[of.prototype]).map_or(&b""[..], |f| f.operation.bytes)
     }
 
-    /// A branch "searches the lines for the name": the index in the body of the line that a sequence symbol names.
+    /// The index in the body of the line that a sequence symbol names; a branch searches for it each time.
     pub fn target(&self, of: Macro, symbol: &[u8]) -> Option<usize> {
         self.body(of).iter().position(|line| line_name(line) == Some(symbol))
     }
@@ -174,7 +174,8 @@ pub fn line_name(line: &[u8]) -> Option<&[u8]> {
     fields(line).and_then(|f| sequence_symbol(f.name.bytes))
 }
 
-/// "Prototype: optional name parameter, macro name, positionals, then keywords `&K=default`"
+/// "Prototype: optional name parameter, macro name (a letter, up to 7 more letters or digits), positionals, then keywords
+/// `&K=default`"
 #[derive(Debug, Default)]
 pub struct Prototype<'a> {
     pub name: Option<&'a [u8]>,

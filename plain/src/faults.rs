@@ -224,7 +224,8 @@ impl At<'_> {
         variable_symbols(bytes).iter().any(|s| s.len() > NAME_LIMIT || self.around.kind(s).is_none())
     }
 
-    /// T14: "the longest run of letters and digits there is the symbol: over 7, or the name of no body line, is 3"
+    /// T14: "the longest run of letters and digits there is the symbol: over 7, or the name of no body line (T3; MEND's line
+    /// included), is 3 on the branching line".
     fn bad_target(&self, target: &[u8]) -> bool {
         let known = |s: &[u8]| self.around.now.is_some_and(|m| self.library.target(m, s).is_some());
         sequence_start(target).is_some_and(|s| s.len() > NAME_LIMIT || !known(s))

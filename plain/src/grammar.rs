@@ -397,7 +397,7 @@ impl<'a> Reader<'a> {
             }
     }
 
-    /// V4: "A word is a whole run of letters and digits".
+    /// V4: "A word (AND OR NOT EQ NE LT LE GT GE) is a whole run of letters and digits".
     fn word(&self) -> &'a [u8] {
         let bytes = &self.field.bytes[..self.end];
         if self.next().is_some() { &bytes[self.at..run(bytes, self.at, letter_or_digit)] } else { b"" }

@@ -1,4 +1,4 @@
--- Documents 01, "Values" and "Lines and fields": how texts and expressions are formed. What their terms and operators stand for is left open (`Sense`), so that
+-- Document 01, "Values" and "Lines and fields": how texts and expressions are formed. What their terms and operators stand for is left open (`Sense`), so that
 -- one grammar serves the test of form (specs/Form.antt) and the evaluation (specs/Evaluate.antt).
 use Prim.Native.Nat.{ℕ, zero, suc}
 use mathlib.Core.Bool.{Bool, true, false, _&&_, _||_, not}

@@ -177,7 +177,8 @@ callName name = choose (isSequence name) [] name
 unfoldable pub writtenOperands : Bytes → Option (Operands Bytes)
 writtenOperands operand = let x = lexed true operand in choose (every isPlain x) (mapOperands unlexed (operandsOf x)) none
 
--- A line that is used as it stands: an open line, or a body line without symbols. 1; "a remark or a line with no operation is copied"; 15; a call; a copy.
+-- A line that is used as it stands: an open line (X1: "1; a remark or a line with no operation is copied; a language word as operation is 15; a macro's name is a
+-- call; else copied"), or a body line without symbols.
 unfoldable pub uses : Machine → Bytes → List Level → State → Move
 uses m line ls s =
     let f = statementFields line in
