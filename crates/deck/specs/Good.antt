@@ -1,4 +1,4 @@
--- The test of good form: which decks are expanded. A translated deck meets it; a damaged one is refused, not expanded into something plausible.
+-- The test of good form: which decks are expanded. A translated deck meets it (`demands`); of every other that meets it the meaning is ByDeck.antt.
 use Prim.Native.Nat.{ℕ, zero, suc, _+_}
 use mathlib.Core.Bool.{Bool, true, false, _&&_, _||_, not}
 use mathlib.Core.List.{List, [], _∷_, _++_, map}
@@ -71,7 +71,7 @@ isLine globals m actr l =
     isInOrder actr (length (m .lines)) (l .does)
     && (areLexemes (l .name) && (areLexemes (l .operation) && (areLexemes (l .operand) && isFormed nestLimit (mapLine (slotKind globals m) (λ t. t) l))))
 
--- "MEND at a body's end and only there"
+-- MEND stands at a body's end and only there
 unfoldable pub doesEnd : Does ℕ → Bool
 doesEnd passes = false
 doesEnd ends = true
