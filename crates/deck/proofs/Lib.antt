@@ -14,5 +14,6 @@ pub mod Limits
 pub mod SlotKinds
 pub mod Library
 pub mod InOrder
+pub mod ReadDecks
 pub mod Fits
 pub mod Size

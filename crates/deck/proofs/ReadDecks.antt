@@ -1,0 +1,291 @@
+-- The fields and defaults of an accepted library's deck are such as 01's reader gives them.
+use Prim.Native.Nat.{ℕ, zero, suc, pred, _<_}
+use mathlib.Core.Path.{_≡_, refl, ap, sym, _∙_, subst}
+use mathlib.Core.Logic.{⊎-elim}
+use mathlib.Core.Bool.{Bool, true, false, false≢true, _&&_, _||_, not}
+use mathlib.Core.List.{List, [], _∷_, _++_, map, map-append}
+use lib.Dec.{eqb}
+use lib.ListN.{length, getD, take, drop, take-append-drop}
+use borrow.Author.Tests.{eqb-true, eq-eqb, not-true, not-false}
+use Rattle.text.specs.Bytes.{Bytes, bytes, same}
+use Rattle.text.specs.Characters.{letter, digit, letterOrDigit}
+use Rattle.text.specs.Words.{wordNumber, words}
+use Rattle.text.proofs.Same.{same-is}
+use Rattle.rules.specs.Choice.{choose, passed, run, every}
+use Rattle.rules.specs.Lexemes.{space, ampersand, apostrophe, opening, closing, comma, period, equals, Lex, byte, mark, ref, lone, byteOf, isPlain, Before, fieldStart, follows, isMark, after, marked, Mode, inText, afterAmpersand, inSymbol, symbols, lexed, unlexed, isSequence, Inside, outside, enters, isBare}
+use Rattle.rules.specs.Fields.{isRemark, isCopiedRemark, isDroppedRemark, startsWith, isSpace, isNoSpace, Fields, fieldsOf, statementFields, endsOperand, operandEnd, holdsSpaces, isEmpty}
+use Rattle.rules.specs.Statement.{Set, setA, setB, setC, Statement, macro, mend, mexit, local, global, set, aif, ago, anop, actr, model, statements, statementOf, mapLex}
+use Rattle.rules.specs.Machine.{isLanguageWord}
+use Rattle.rules.proofs.Choices.{by, either, chosen, passed-over, and-left, and-right}
+use Rattle.rules.proofs.Logic.{clash, or-left, or-right}
+use Rattle.rules.proofs.ReadLines.{every-behind}
+use Rattle.rules.proofs.Lossless.{lexed-back}
+use Rattle.rules.proofs.Defaults.{mark-same, after-same}
+use Rattle.deck.specs.Slots.{Slot}
+use Rattle.deck.specs.AsRead.{lastByte, isEnd, startsPlainly}
+use Rattle.deck.proofs.InOrder.{both}
+
+abbrev Lexes : Type 0
+Lexes = List (Lex Bytes)
+
+-- ---- a name or an operation has no space
+
+front-no-space : (l : Bytes) → every isNoSpace (take (run isNoSpace l) l) ≡ true
+unfolding every run
+front-no-space [] = refl
+front-no-space (c ∷ l) = either (λ (n : ℕ). every isNoSpace (take n (c ∷ l)) ≡ true) (isNoSpace c) (λ e. both e (front-no-space l)) (λ e. refl)
+
+name-no-space : (l : Bytes) → every isNoSpace (fieldsOf l .name) ≡ true
+unfolding fieldsOf
+name-no-space l = front-no-space l
+
+operation-no-space : (l : Bytes) → every isNoSpace (fieldsOf l .operation) ≡ true
+unfolding fieldsOf
+operation-no-space l = let l₁ = drop (run isNoSpace l) l in front-no-space (drop (run isSpace l₁) l₁)
+
+no-space-in : (g : Bytes → Slot) (x : Lexes) → every isNoSpace (unlexed x) ≡ true → every (λ y. not (eqb (byteOf y) space)) (map (mapLex g) x) ≡ true
+unfolding every isNoSpace unlexed mapLex byteOf
+no-space-in g [] h = refl
+no-space-in g (byte c ∷ x) h = both (and-left (isNoSpace c) _ h) (no-space-in g x (and-right (isNoSpace c) _ h))
+no-space-in g (mark ∷ x) h = no-space-in g x h
+no-space-in g (ref n ∷ x) h = no-space-in g x (every-behind isNoSpace n (unlexed x) h)
+no-space-in g (lone ∷ x) h = no-space-in g x h
+
+-- the lexemes of a field without spaces have none
+lexed-no-space : (g : Bytes → Slot) (quotes : Bool) (s : Bytes) → every isNoSpace s ≡ true → every (λ y. not (eqb (byteOf y) space)) (map (mapLex g) (lexed quotes s)) ≡ true
+lexed-no-space g quotes s h = no-space-in g (lexed quotes s) (ap (every isNoSpace) (lexed-back quotes s) ∙ h)
+
+-- ---- scans that stop nowhere
+
+abbrev Free : {R : Type 0} → (Inside → Lex R → Bool) → Inside → List (Lex R) → Type 0
+Free stop i [] = Unit {0}
+Free stop i (x ∷ s) = (stop i x ≡ false) × Free stop (enters i x) s
+
+free-passed : {R : Type 0} (stop : Inside → Lex R → Bool) (i : Inside) (x : List (Lex R)) → Free stop i x → passed stop enters i x ≡ length x
+unfolding passed
+free-passed stop i [] h = refl
+free-passed stop i (x ∷ s) h = passed-over _ _ (h .0) ∙ ap suc (free-passed stop (enters i x) s (h .1))
+
+free-front : {R : Type 0} (stop : Inside → Lex R → Bool) (n : ℕ) (i : Inside) (x : List (Lex R)) → Free stop i x → Free stop i (take n x)
+free-front stop zero i x h = tt
+free-front stop (suc n) i [] h = tt
+free-front stop (suc n) i (x ∷ s) h = (h .0, free-front stop n (enters i x) s (h .1))
+
+free-mapped : (g : Bytes → Slot) (holds : Bool) (i : Inside) (x : Lexes) → Free (isEnd holds) i x → Free (isEnd holds) i (map (mapLex g) x)
+unfolding isEnd mapLex byteOf enters
+free-mapped g holds i [] h = tt
+free-mapped g holds i (byte c ∷ x) h = (h .0, free-mapped g holds (enters {R = Bytes} i (byte c)) x (h .1))
+free-mapped g holds i (mark ∷ x) h = (h .0, free-mapped g holds (enters {R = Bytes} i mark) x (h .1))
+free-mapped g holds i (ref n ∷ x) h = (h .0, free-mapped g holds (enters i (ref n)) x (h .1))
+free-mapped g holds i (lone ∷ x) h = (h .0, free-mapped g holds (enters {R = Bytes} i lone) x (h .1))
+
+-- ---- an operand ends at no place before its end
+
+same-branch : {A : Type 0} (b : Bool) (x : A) → choose b x x ≡ x
+unfolding choose
+same-branch true x = refl
+same-branch false x = refl
+
+-- a lexeme behind which a scan stands as before it
+still : (i : Inside) (x : Lex Bytes) → eqb (byteOf x) apostrophe ≡ false → eqb (byteOf x) opening ≡ false → eqb (byteOf x) closing ≡ false → enters i x ≡ i
+unfolding enters
+still i x a o c = λ k. record {
+  quoted = passed-over (not (i .quoted)) (i .quoted) a k;
+  depth = (ap (λ (n : ℕ). choose (i .quoted) (i .depth) n) (passed-over (suc (i .depth)) (choose (eqb (byteOf x) closing) (pred (i .depth)) (i .depth)) o ∙ passed-over (pred (i .depth)) (i .depth) c) ∙ same-branch (i .quoted) (i .depth)) k;
+}
+
+-- a byte that passes a test which another does not
+unlike : (test : ℕ → Bool) (d c : ℕ) → test d ≡ false → test c ≡ true → eqb c d ≡ false
+unlike test d c f t = by (eqb c d) (λ e. clash t (ap test (eqb-true c d e) ∙ f)) (λ e. e)
+
+still-by : (test : ℕ → Bool) → test apostrophe ≡ false → test opening ≡ false → test closing ≡ false → (i : Inside) (x : Lex Bytes) → test (byteOf x) ≡ true → enters i x ≡ i
+still-by test a o c i x t =
+    still i x (unlike test apostrophe (byteOf x) a t) (unlike test opening (byteOf x) o t) (unlike test closing (byteOf x) c t)
+
+still-at-ampersand : (i : Inside) (x : Lex Bytes) → eqb (byteOf x) ampersand ≡ true → enters i x ≡ i
+still-at-ampersand i x e = still-by (λ c. eqb c ampersand) refl refl refl i x e
+
+still-at-letter : (i : Inside) (x : Lex Bytes) → letter (byteOf x) ≡ true → enters i x ≡ i
+unfolding letter
+still-at-letter i x e = still-by letter refl refl refl i x e
+
+still-at-letterOrDigit : (i : Inside) (x : Lex Bytes) → letterOrDigit (byteOf x) ≡ true → enters i x ≡ i
+unfolding letter digit letterOrDigit
+still-at-letterOrDigit i x e = still-by letterOrDigit refl refl refl i x e
+
+module _ (holds : Bool) where
+  abbrev Runs : Inside → Lexes → Type 0
+  Runs i x = Free (isEnd holds) i x
+
+  -- a lexeme that is read and not yet handed on, and one that is handed on
+  unread : (i : Inside) (x : Lex Bytes) (s : Lexes) → enters i x ≡ i → Runs (enters i x) s → Runs i s
+  unread i x s e h = subst (λ (j : Inside). Runs j s) e h
+
+  handed : (i : Inside) (x : Lex Bytes) (s : Lexes) → eqb (byteOf x) space ≡ false → enters i x ≡ i → Runs i s → Runs i (x ∷ s)
+  unfolding isEnd
+  handed i x s n e h = (ap (λ (b : Bool). b && (not (i .quoted) && (not holds || eqb (i .depth) 0))) n, subst (λ (j : Inside). Runs j s) (sym e) h)
+
+  handed-ampersand : (i : Inside) (s : Lexes) → Runs i s → Runs i (byte ampersand ∷ s)
+  unfolding byteOf
+  handed-ampersand i s h = handed i (byte ampersand) s refl (still i (byte ampersand) refl refl refl) h
+
+  handed-lone : (i : Inside) (s : Lexes) → Runs i s → Runs i (lone ∷ s)
+  unfolding byteOf
+  handed-lone i s h = handed i lone s refl (still i lone refl refl refl) h
+
+  handed-ref : (i : Inside) (n : Bytes) (s : Lexes) → Runs i s → Runs i (ref n ∷ s)
+  unfolding byteOf
+  handed-ref i n s h = handed i (ref n) s refl (still i (ref n) refl refl refl) h
+
+  symbols-run : (m : Mode) (i : Inside) (x : Lexes) → Runs i x → Runs i (symbols m x)
+  unfolding symbols
+  symbols-run inText i [] h = tt
+  symbols-run afterAmpersand i [] h = handed-lone i [] tt
+  symbols-run (inSymbol n) i [] h = handed-ref i n [] tt
+  symbols-run inText i (x ∷ s) h =
+      either (Runs i) (eqb (byteOf x) ampersand) (λ e. symbols-run afterAmpersand i s (unread i x s (still-at-ampersand i x e) (h .1)))
+      (λ e. (h .0, symbols-run inText (enters i x) s (h .1)))
+  symbols-run afterAmpersand i (x ∷ s) h =
+      either (Runs i) (eqb (byteOf x) ampersand)
+      (λ e. handed-ampersand i (byte ampersand ∷ symbols inText s) (handed-ampersand i (symbols inText s) (symbols-run inText i s (unread i x s (still-at-ampersand i x e) (h .1)))))
+      (λ e. either (Runs i) (letter (byteOf x)) (λ f. symbols-run (inSymbol (byteOf x ∷ [])) i s (unread i x s (still-at-letter i x f) (h .1)))
+      (λ f. handed-lone i (x ∷ symbols inText s) (h .0, symbols-run inText (enters i x) s (h .1))))
+  symbols-run (inSymbol n) i (x ∷ s) h =
+      either (Runs i) (letterOrDigit (byteOf x))
+      (λ e. symbols-run (inSymbol (n ++ (byteOf x ∷ []))) i s (unread i x s (still-at-letterOrDigit i x e) (h .1)))
+      (λ e. either (Runs i) (eqb (byteOf x) ampersand)
+      (λ f. handed-ref i n (symbols afterAmpersand s) (symbols-run afterAmpersand i s (unread i x s (still-at-ampersand i x f) (h .1))))
+      (λ f. handed-ref i n (x ∷ symbols inText s) (h .0, symbols-run inText (enters i x) s (h .1))))
+
+  -- neither a letter nor an ampersand is a space
+  space-follows : (k : Bool) (c : ℕ) → eqb (byteOf {R = Bytes} (choose k mark (byte c))) space ≡ true → (letter c || eqb c ampersand) ≡ false
+  unfolding choose byteOf letter
+  space-follows true c e = absurd (false≢true e)
+  space-follows false c e = ap (λ (d : ℕ). letter d || eqb d ampersand) (eqb-true c space e)
+
+  -- up to a space, what follows an apostrophe is the same
+  ends-follow : (i : Inside) (b : Before) (s : Bytes) → follows (take (passed (isEnd holds) enters i (marked {R = Bytes} true b s)) s) ≡ follows s
+  unfolding passed marked follows isEnd
+  ends-follow i b [] = refl
+  ends-follow i b (c ∷ s) =
+      let x : Lex Bytes = choose (isMark b c s) mark (byte c) in
+      either (λ (n : ℕ). follows (take n (c ∷ s)) ≡ follows (c ∷ s)) (isEnd holds i x) (λ e. sym (space-follows (isMark b c s) c (and-left (eqb (byteOf x) space) _ e))) (λ e. refl)
+
+  marks-run : (i : Inside) (b : Before) (s : Bytes) → Runs i (marked true b (take (passed (isEnd holds) enters i (marked {R = Bytes} true b s)) s))
+  unfolding passed marked
+  marks-run i b [] = tt
+  marks-run i b (c ∷ s) =
+      let x : Lex Bytes = choose (isMark b c s) mark (byte c) in
+      let t = take (passed (isEnd holds) enters (enters i x) (marked {R = Bytes} true (after true b c s) s)) s in
+      either (λ (n : ℕ). Runs i (marked true b (take n (c ∷ s)))) (isEnd holds i x) (λ e. tt)
+      (λ e.
+      let q = mark-same b c s t (sym (ends-follow (enters i x) (after true b c s) s)) in
+      subst (λ (y : Lexes). Runs i y) (λ k. choose (q k) mark (byte c) ∷ marked true (after-same b c s t q k) t) (e, marks-run (enters i x) (after true b c s) s))
+
+operand-runs : (l : Bytes) → Free (isEnd (holdsSpaces (fieldsOf l .operation))) outside (lexed true (fieldsOf l .operand))
+unfolding fieldsOf lexed operandEnd endsOperand isEnd
+operand-runs l =
+    let l₁ = drop (run isNoSpace l) l in
+    let l₂ = drop (run isSpace l₁) l₁ in
+    let o = run isNoSpace l₂ in
+    let l₃ = drop o l₂ in
+    let l₄ = drop (run isSpace l₃) l₃ in
+    let holds = holdsSpaces (take o l₂) in
+    symbols-run holds inText outside (marked true fieldStart (take (operandEnd holds l₄) l₄)) (marks-run holds outside fieldStart l₄)
+
+-- where parentheses hold no spaces there are none inside them either
+held-run : (i : Inside) (x : Lexes) → Free (isEnd false) i x → Free (isEnd true) i x
+unfolding isEnd
+held-run i [] h = tt
+held-run i (x ∷ s) h = (go (eqb (byteOf x) space) (not (i .quoted)) (eqb (i .depth) 0) (h .0), held-run (enters i x) s (h .1))
+  where
+    go : (a b c : Bool) → (a && (b && true)) ≡ false → (a && (b && c)) ≡ false
+    go false b c e = refl
+    go true false c e = refl
+    go true true c e = clash refl e
+
+-- the statements whose operand's parentheses hold spaces
+abbrev isHolding : Statement → Bool
+isHolding macro = false
+isHolding mend = false
+isHolding mexit = false
+isHolding (local k) = false
+isHolding (global k) = false
+isHolding (set setA) = false
+isHolding (set setB) = true
+isHolding (set setC) = false
+isHolding aif = true
+isHolding ago = false
+isHolding anop = false
+isHolding actr = false
+isHolding model = false
+
+holds-none : (o : Bytes) → isHolding (statementOf o) ≡ false → holdsSpaces o ≡ false
+unfolding holdsSpaces statementOf statements wordNumber words
+holds-none o h =
+    by (same o (bytes "AIF")) (λ e. clash (ap (λ (w : Bytes). isHolding (statementOf w)) (same-is o (bytes "AIF") e)) h)
+    (λ e. by (same o (bytes "SETB")) (λ f. clash (ap (λ (w : Bytes). isHolding (statementOf w)) (same-is o (bytes "SETB") f)) h)
+    (λ f i. e i || f i))
+
+-- by the line's statement
+statement-runs : (l : Bytes) → Free (isEnd (isHolding (statementOf (fieldsOf l .operation)))) outside (lexed true (fieldsOf l .operand))
+statement-runs l =
+    let o = fieldsOf l .operation in
+    let x = lexed true (fieldsOf l .operand) in
+    go (isHolding (statementOf o)) (holds-none o)
+  where
+    weaker : (b : Bool) → Free (isEnd b) outside (lexed true (fieldsOf l .operand)) → Free (isEnd true) outside (lexed true (fieldsOf l .operand))
+    weaker true h = h
+    weaker false h = held-run outside (lexed true (fieldsOf l .operand)) h
+
+    go : (b : Bool) → (b ≡ false → holdsSpaces (fieldsOf l .operation) ≡ false) → Free (isEnd b) outside (lexed true (fieldsOf l .operand))
+    go true f = weaker (holdsSpaces (fieldsOf l .operation)) (operand-runs l)
+    go false f = subst (λ (b : Bool). Free (isEnd b) outside (lexed true (fieldsOf l .operand))) (f refl) (operand-runs l)
+
+-- ---- a model's name and operation
+
+module _ (g : Bytes → Slot) where
+  starts-plainly : (x : Lexes) → startsWith (bytes ".") (unlexed x) ≡ false → startsWith (bytes "*") (unlexed x) ≡ false → startsPlainly (map (mapLex g) x) ≡ true
+  unfolding startsPlainly startsWith unlexed mapLex byteOf
+  starts-plainly [] p s = refl
+  starts-plainly (byte c ∷ x) p s =
+      by (eqb c period) (λ e. clash (ap (λ (d : ℕ). startsWith (bytes ".") (d ∷ unlexed x)) (eqb-true c period e)) p)
+      (λ e. by (eqb c 42) (λ f. clash (ap (λ (d : ℕ). startsWith (bytes "*") (d ∷ unlexed x)) (eqb-true c 42 f)) s)
+      (λ f i. not (e i || f i)))
+  starts-plainly (mark ∷ x) p s = refl
+  starts-plainly (ref n ∷ x) p s = refl
+  starts-plainly (lone ∷ x) p s = refl
+
+  empty-as-read : (x : Lexes) → isEmpty (map (mapLex g) x) ≡ isEmpty (unlexed x)
+  unfolding isEmpty unlexed mapLex
+  empty-as-read [] = refl
+  empty-as-read (byte c ∷ x) = refl
+  empty-as-read (mark ∷ x) = refl
+  empty-as-read (ref n ∷ x) = refl
+  empty-as-read (lone ∷ x) = refl
+
+  plain-bytes : (x : Lexes) → every isPlain (map (mapLex g) x) ≡ true → map lastByte (map (mapLex g) x) ≡ unlexed x
+  unfolding every isPlain unlexed mapLex lastByte
+  plain-bytes [] h = refl
+  plain-bytes (byte c ∷ x) h = ap (λ (s : Bytes). c ∷ s) (plain-bytes x h)
+  plain-bytes (mark ∷ x) h = ap (λ (s : Bytes). apostrophe ∷ s) (plain-bytes x h)
+  plain-bytes (ref n ∷ x) h = absurd (false≢true h)
+  plain-bytes (lone ∷ x) h = absurd (false≢true h)
+
+  no-word-read : (o : Bytes) → isLanguageWord o ≡ false → let x = map (mapLex g) (lexed false o) in not (every isPlain x && isLanguageWord (map lastByte x)) ≡ true
+  no-word-read o h =
+      let x = map (mapLex g) (lexed false o) in
+      by (every isPlain x)
+      (λ e i. not (e i && (ap isLanguageWord (plain-bytes (lexed false o) e ∙ lexed-back false o) ∙ h) i))
+      (λ e i. not (e i && isLanguageWord (map lastByte x)))
+
+-- a line that is no remark has no name that starts with `*`
+star-front : (n : ℕ) (l : Bytes) → startsWith (bytes "*") l ≡ false → startsWith (bytes "*") (take n l) ≡ false
+unfolding startsWith
+star-front zero l h = refl
+star-front (suc n) [] h = refl
+star-front (suc n) (c ∷ l) h = h
+
+name-no-star : (l : Bytes) → isRemark l ≡ false → startsWith (bytes "*") (fieldsOf l .name) ≡ false
+unfolding isRemark isCopiedRemark fieldsOf
+name-no-star l h = star-front (run isNoSpace l) l (or-left (startsWith (bytes "*") l) _ h)
