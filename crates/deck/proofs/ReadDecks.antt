@@ -9,20 +9,29 @@ use lib.ListN.{length, getD, take, drop, take-append-drop}
 use borrow.Author.Tests.{eqb-true, eq-eqb, not-true, not-false}
 use Rattle.text.specs.Bytes.{Bytes, bytes, same}
 use Rattle.text.specs.Characters.{letter, digit, letterOrDigit}
-use Rattle.text.specs.Words.{wordNumber, words}
+use Rattle.text.specs.Words.{placeAmong, wordNumber, words}
 use Rattle.text.proofs.Same.{same-is}
-use Rattle.rules.specs.Choice.{choose, passed, run, every}
-use Rattle.rules.specs.Lexemes.{space, ampersand, apostrophe, opening, closing, comma, period, equals, Lex, byte, mark, ref, lone, byteOf, isPlain, Before, fieldStart, follows, isMark, after, marked, Mode, inText, afterAmpersand, inSymbol, symbols, lexed, unlexed, isSequence, Inside, outside, enters, isBare}
+use Rattle.rules.specs.Choice.{choose, passed, run, every, onFirst}
+use Rattle.rules.specs.Limits.{macroNameLimit}
+use Rattle.rules.specs.Lexemes.{space, ampersand, apostrophe, opening, closing, comma, period, equals, Lex, byte, mark, ref, lone, byteOf, isPlain, Before, fieldStart, follows, isMark, after, marked, Mode, inText, afterAmpersand, inSymbol, symbols, lexed, unlexed, isName, isSequence, Inside, outside, enters, isBare}
 use Rattle.rules.specs.Fields.{isRemark, isCopiedRemark, isDroppedRemark, startsWith, isSpace, isNoSpace, Fields, fieldsOf, statementFields, endsOperand, operandEnd, holdsSpaces, isEmpty}
 use Rattle.rules.specs.Statement.{Set, setA, setB, setC, Statement, macro, mend, mexit, local, global, set, aif, ago, anop, actr, model, statements, statementOf, mapLex}
 use Rattle.rules.specs.Machine.{isLanguageWord}
+use Rattle.rules.specs.Calls.{parts, divided, hasEquals}
+use Rattle.rules.specs.Library.{Macro, keywordNames, operandParts, namesIn, operationOf}
+use Rattle.rules.specs.ByLines.{Reading, reading}
+use Rattle.rules.specs.Faults.{isMacroName, isGoodPart, isDefault, areGoodParts, accepted, verdict}
 use Rattle.rules.proofs.Choices.{by, either, chosen, passed-over, and-left, and-right}
-use Rattle.rules.proofs.Logic.{clash, or-left, or-right}
+use Rattle.rules.proofs.Logic.{All, clash, or-left, or-right}
 use Rattle.rules.proofs.ReadLines.{every-behind}
 use Rattle.rules.proofs.Lossless.{lexed-back}
-use Rattle.rules.proofs.Defaults.{mark-same, after-same}
-use Rattle.deck.specs.Slots.{Slot}
-use Rattle.deck.specs.AsRead.{lastByte, isEnd, startsPlainly}
+use Rattle.rules.proofs.Pieces.{Piece, parts-stand}
+use Rattle.rules.proofs.Defaults.{mark-same, after-same, default-again}
+use Rattle.rules.proofs.Walked.{Proper}
+use Rattle.rules.proofs.Prototypes.{title-is, title-named, parts-good}
+use Rattle.deck.specs.Slots.{Slot, deckMacro}
+use Rattle.deck.specs.AsRead.{lastByte, isEnd, startsPlainly, isBareComma, isReadDefault}
+use Rattle.deck.proofs.Keywords.{Keyworded, part-split, keyword-is, default-good, first-of-good, no-keyword}
 use Rattle.deck.proofs.InOrder.{both}
 
 abbrev Lexes : Type 0
@@ -289,3 +298,106 @@ star-front (suc n) (c ∷ l) h = h
 name-no-star : (l : Bytes) → isRemark l ≡ false → startsWith (bytes "*") (fieldsOf l .name) ≡ false
 unfolding isRemark isCopiedRemark fieldsOf
 name-no-star l h = star-front (run isNoSpace l) l (or-left (startsWith (bytes "*") l) _ h)
+
+-- ---- a default has no bare comma and no bare space
+
+abbrev Whole : Lexes → Type 0
+Whole p = Free isBareComma outside p
+
+-- the first part, which goes on from what stands before, and the others
+record Parts (i : Inside) (ps : List Lexes) : Type 0 where
+  first : Lexes
+  others : List Lexes
+  are : ps ≡ first ∷ others
+  first-whole : Free isBareComma i first
+  follow : All Whole others
+
+parts-from : (i : Inside) (ps : List Lexes) → i ≡ outside → Parts i ps → All Whole ps
+parts-from i ps e r = subst (All Whole) (sym (r .are)) (subst (λ (j : Inside). Free isBareComma j (r .first)) e (r .first-whole), r .follow)
+
+-- a comma divides where no quote and no parenthesis is open
+bare-outside : (i : Inside) (x : Lex Bytes) → isBare comma i x ≡ true → i ≡ outside
+unfolding isBare outside
+bare-outside i x h =
+    let r = and-right (eqb (byteOf x) comma) _ h in
+    let q = not-true (i .quoted) (and-left (not (i .quoted)) _ r) in
+    let d = eqb-true (i .depth) 0 (and-right (not (i .quoted)) _ r) in
+    λ k. record { quoted = q k; depth = d k }
+
+bare-still : (i : Inside) (x : Lex Bytes) → isBare comma i x ≡ true → enters i x ≡ i
+unfolding isBare
+bare-still i x h = still-by (λ c. eqb c comma) refl refl refl i x (and-left (eqb (byteOf x) comma) _ h)
+
+parts-whole : (i : Inside) (x : Lexes) → Free (isEnd false) i x → Parts i (parts i x)
+unfolding parts onFirst isBareComma
+parts-whole i [] h = record { first = []; others = []; are = refl; first-whole = tt; follow = tt }
+parts-whole i (x ∷ s) h =
+    either (Parts i) (isBare comma i x)
+    (λ e.
+    let r = parts-whole i s (subst (λ (j : Inside). Free (isEnd false) j s) (bare-still i x e) (h .1)) in
+    record { first = []; others = parts i s; are = refl; first-whole = tt; follow = parts-from i (parts i s) (bare-outside i x e) r })
+    (λ e.
+    let r = parts-whole (enters i x) s (h .1) in
+    record {
+      first = x ∷ r .first;
+      others = r .others;
+      are = ap (onFirst x) (r .are);
+      first-whole = (λ k. e k || h .0 k, r .first-whole);
+      follow = r .follow;
+    })
+
+divided-whole : (x : Lexes) → Free (isEnd false) outside x → All Whole (divided x)
+unfolding divided
+divided-whole [] h = tt
+divided-whole (x ∷ s) h = parts-from outside _ refl (parts-whole outside (x ∷ s) h)
+
+-- behind a symbol and `=` a scan stands as at the start
+behind-keyword : (n : Bytes) (d : Lexes) → Whole (ref n ∷ (byte equals ∷ d)) → Whole d
+unfolding enters outside byteOf choose
+behind-keyword n d h = h .1 .1
+
+default-read : (s : Bytes) (p : Lexes) (k : Keyworded p) → Piece false (lexed true s) p → Whole p → isDefault (k .default) ≡ true → isReadDefault (unlexed (k .default)) ≡ true
+unfolding isReadDefault isDefault
+default-read s p k r w good =
+    let d = k .default in
+    let q = subst (λ (x : Lexes). Piece false (lexed true s) x) (k .are) r in
+    let again = default-again s (k .name) d q (and-left (every isPlain d) _ good) in
+    ap (λ (x : Lexes). eqb (passed isBareComma enters outside x) (length x)) again
+    ∙ eq-eqb _ _ (free-passed isBareComma outside d (behind-keyword (k .name) d (subst Whole (k .are) w)))
+
+keywords-read : (s : Bytes) (b : Bool) (ps : List Lexes) → All (Piece false (lexed true s)) ps → All Whole ps → areGoodParts b ps ≡ true
+    → every (λ k. isReadDefault (k .1)) (keywordNames ps) ≡ true
+unfolding areGoodParts every keywordNames
+keywords-read s b [] st w g = refl
+keywords-read s b (p ∷ ps) st w g =
+    let gp = and-left (isGoodPart p) _ g in
+    let r = keywords-read s (b || hasEquals p) ps (st .1) (w .1) (and-right (hasEquals p || not b) _ (and-right (isGoodPart p) _ g)) in
+    let P : List (Bytes × Bytes) → Type 0 = λ x. every (λ k. isReadDefault (k .1)) x ≡ true in
+    by (hasEquals p)
+    (λ e.
+    let k = part-split p (first-of-good p gp) e in
+    subst P (sym (keyword-is p k ps e)) (both (default-read s p k (st .0) (w .0) (default-good p k gp e)) r))
+    (λ e. subst P (sym (no-keyword p ps e)) r)
+
+and-none : (b : Bool) → (b && false) ≡ false
+and-none true = refl
+and-none false = refl
+
+-- a macro's name is none of the words whose operands hold spaces
+title-holds-none : (o : Bytes) → isMacroName o ≡ true → holdsSpaces o ≡ false
+unfolding holdsSpaces isMacroName words
+title-holds-none o h =
+    by (same o (bytes "AIF")) (λ e. clash h (ap isMacroName (same-is o (bytes "AIF") e) ∙ no-title (bytes "AIF") refl))
+    (λ e. by (same o (bytes "SETB")) (λ f. clash h (ap isMacroName (same-is o (bytes "SETB") f) ∙ no-title (bytes "SETB") refl)) (λ f i. e i || f i))
+  where
+    no-title : (w : Bytes) → eqb (placeAmong words w) (length words) ≡ false → isMacroName w ≡ false
+    no-title w e = ap (λ (b : Bool). isName macroNameLimit w && b) e ∙ and-none (isName macroNameLimit w)
+
+defaults-of : (gs : List (Bytes × Set)) (x : Macro) → Proper x → every (λ k. isReadDefault (k .1)) (deckMacro gs (reading x) .keywords) ≡ true
+unfolding reading deckMacro namesIn operandParts
+defaults-of gs x p =
+    let f = fieldsOf (x .prototype) in
+    let h = p .prototype-faultless in
+    let n = title-holds-none (f .operation) (ap isMacroName (sym (title-is h)) ∙ title-named h) in
+    let w = subst (λ (b : Bool). Free (isEnd b) outside (lexed true (f .operand))) n (operand-runs (x .prototype)) in
+    keywords-read (f .operand) false (operandParts f) (parts-stand (lexed true (f .operand))) (divided-whole (lexed true (f .operand)) w) (parts-good h)
