@@ -5,33 +5,42 @@ use mathlib.Core.Logic.{⊎-elim}
 use mathlib.Core.Bool.{Bool, true, false, false≢true, _&&_, _||_, not}
 use mathlib.Core.List.{List, [], _∷_, _++_, map, map-append}
 use lib.Dec.{eqb}
-use lib.ListN.{length, getD, take, drop, take-append-drop}
+use lib.ListN.{length, getD, take, drop, take-append-drop, length-map}
 use borrow.Author.Tests.{eqb-true, eq-eqb, not-true, not-false}
 use Rattle.text.specs.Bytes.{Bytes, bytes, same}
 use Rattle.text.specs.Characters.{letter, digit, letterOrDigit}
 use Rattle.text.specs.Words.{placeAmong, wordNumber, words}
 use Rattle.text.proofs.Same.{same-is}
 use Rattle.rules.specs.Choice.{choose, passed, run, every, onFirst}
-use Rattle.rules.specs.Limits.{macroNameLimit}
+use Rattle.rules.specs.Limits.{nameLimit, macroNameLimit}
 use Rattle.rules.specs.Lexemes.{space, ampersand, apostrophe, opening, closing, comma, period, equals, Lex, byte, mark, ref, lone, byteOf, isPlain, Before, fieldStart, follows, isMark, after, marked, Mode, inText, afterAmpersand, inSymbol, symbols, lexed, unlexed, isName, isSequence, Inside, outside, enters, isBare}
 use Rattle.rules.specs.Fields.{isRemark, isCopiedRemark, isDroppedRemark, startsWith, isSpace, isNoSpace, Fields, fieldsOf, statementFields, endsOperand, operandEnd, holdsSpaces, isEmpty}
-use Rattle.rules.specs.Statement.{Set, setA, setB, setC, Statement, macro, mend, mexit, local, global, set, aif, ago, anop, actr, model, statements, statementOf, mapLex}
+use Rattle.rules.specs.Statement.{Set, setA, setB, setC, Statement, macro, mend, mexit, local, global, set, aif, ago, anop, actr, model, statements, statementOf, Does, passes, text, Line, mapLex, mapDoes, mapLine, pairsFirst, startsOpen, conditionEnd, isCopied, doing, modelOf, says, read}
 use Rattle.rules.specs.Machine.{isLanguageWord}
 use Rattle.rules.specs.Calls.{parts, divided, hasEquals}
-use Rattle.rules.specs.Library.{Macro, keywordNames, operandParts, namesIn, operationOf}
+use Rattle.rules.specs.Library.{Macro, lineNamed, keywordNames, operandParts, namesIn, operationOf}
 use Rattle.rules.specs.ByLines.{Reading, reading}
-use Rattle.rules.specs.Faults.{isMacroName, isGoodPart, isDefault, areGoodParts, accepted, verdict}
+use Rattle.rules.specs.Faults.{isMisplaced, isMacroName, isGoodPart, isDefault, areGoodParts, isNamedOrEmpty, isModelName, targetBehind, areFieldsGood, accepted, verdict}
 use Rattle.rules.proofs.Choices.{by, either, chosen, passed-over, and-left, and-right}
 use Rattle.rules.proofs.Logic.{All, clash, or-left, or-right}
+use Rattle.rules.proofs.Said.{isModel, model-is-no-word, statementOn, remark-says, statement-says}
+use Rattle.rules.proofs.Symbols.{getD-mapped}
+use Rattle.rules.proofs.NoLone.{isNoLone, NoLone}
 use Rattle.rules.proofs.ReadLines.{every-behind}
+use Rattle.rules.proofs.BodyLines.{Clean, line-clean}
+use Rattle.rules.proofs.Accepted.{Stands, in-place, good-fields, Known, line-stands}
 use Rattle.rules.proofs.Lossless.{lexed-back}
-use Rattle.rules.proofs.Pieces.{Piece, parts-stand}
+use Rattle.rules.proofs.Pieces.{byte-is, Piece, parts-stand}
 use Rattle.rules.proofs.Defaults.{mark-same, after-same, default-again}
 use Rattle.rules.proofs.Walked.{Proper}
 use Rattle.rules.proofs.Prototypes.{title-is, title-named, parts-good}
-use Rattle.deck.specs.Slots.{Slot, deckMacro}
-use Rattle.deck.specs.AsRead.{lastByte, isEnd, startsPlainly, isBareComma, isReadDefault}
+use Rattle.deck.specs.Slots.{Slot, resolved, resolvedLine, DeckMacro, deckMacro, noMacro, noLine, resolvedLibrary}
+use Rattle.deck.specs.AsRead.{lastByte, isRead, isField, isWordField, isEnd, isOperand, startsPlainly, isModelOperation, isReadBy, isReadLine, isBareComma, isReadDefault}
+use Rattle.deck.specs.Good.{isReadMacro}
 use Rattle.deck.proofs.Keywords.{Keyworded, part-split, keyword-is, default-good, first-of-good, no-keyword}
+use Rattle.deck.proofs.Tests.{every-each}
+use Rattle.deck.proofs.Macros.{Each, each-macro}
+use Rattle.deck.proofs.Lines.{no-period, fields-are, known-of}
 use Rattle.deck.proofs.InOrder.{both}
 
 abbrev Lexes : Type 0
@@ -401,3 +410,206 @@ defaults-of gs x p =
     let n = title-holds-none (f .operation) (ap isMacroName (sym (title-is h)) ∙ title-named h) in
     let w = subst (λ (b : Bool). Free (isEnd b) outside (lexed true (f .operand))) n (operand-runs (x .prototype)) in
     keywords-read (f .operand) false (operandParts f) (parts-stand (lexed true (f .operand))) (divided-whole (lexed true (f .operand)) w) (parts-good h)
+
+-- ---- AIF's condition: the front of an operand whose rest is a sequence symbol
+
+run-all : {A : Type 0} (test : A → Bool) (s : List A) → run test s ≡ length s → every test s ≡ true
+unfolding run every
+run-all test [] h = refl
+run-all test (a ∷ s) h =
+    by (test a) (λ e. both e (run-all test s (ap pred (sym (chosen (suc (run test s)) 0 e) ∙ h))))
+    (λ e. let z : 0 ≡ suc (length s) = sym (passed-over (suc (run test s)) 0 e) ∙ h in cc)
+
+every-so : {A : Type 0} (test other : A → Bool) → ((a : A) → test a ≡ true → other a ≡ true) → (s : List A) → every test s ≡ true → every other s ≡ true
+unfolding every
+every-so test other f [] h = refl
+every-so test other f (a ∷ s) h = both (f a (and-left (test a) _ h)) (every-so test other f s (and-right (test a) _ h))
+
+every-joined : {A : Type 0} (test : A → Bool) (s t : List A) → every test s ≡ true → every test t ≡ true → every test (s ++ t) ≡ true
+unfolding every
+every-joined test [] t h k = k
+every-joined test (a ∷ s) t h k = both (and-left (test a) _ h) (every-joined test s t (and-right (test a) _ h) k)
+
+abbrev isNoAmpersand : ℕ → Bool
+isNoAmpersand c = not (eqb c ampersand)
+
+name-no-ampersand : (limit : ℕ) (n : Bytes) → isName limit n ≡ true → every isNoAmpersand n ≡ true
+unfolding isName every letter digit letterOrDigit
+name-no-ampersand limit [] h = refl
+name-no-ampersand limit (c ∷ s) h =
+    let r = and-left (eqb (run letterOrDigit s) (length s)) _ (and-right (letter c) _ h) in
+    both (ap not (unlike letter ampersand c refl (and-left (letter c) _ h)))
+    (every-so letterOrDigit isNoAmpersand (λ d e. ap not (unlike letterOrDigit ampersand d refl e)) s (run-all letterOrDigit s (eqb-true (run letterOrDigit s) (length s) r)))
+
+sequence-no-ampersand : (s : Bytes) → isSequence s ≡ true → every isNoAmpersand s ≡ true
+unfolding isSequence every
+sequence-no-ampersand [] h = refl
+sequence-no-ampersand (p ∷ n) h =
+    both (ap not (unlike (λ c. eqb c period) ampersand p refl (and-left (eqb p period) _ h))) (name-no-ampersand nameLimit n (and-right (eqb p period) _ h))
+
+no-lone-in : (x : Lexes) → every isNoAmpersand (unlexed x) ≡ true → NoLone x
+unfolding every unlexed
+no-lone-in [] h = refl
+no-lone-in (byte c ∷ x) h = no-lone-in x (and-right (isNoAmpersand c) _ h)
+no-lone-in (mark ∷ x) h = no-lone-in x h
+no-lone-in (ref n ∷ x) h = absurd (false≢true h)
+no-lone-in (lone ∷ x) h = absurd (false≢true h)
+
+-- the first lexemes end with `)`
+record Cut (x : Lexes) (n : ℕ) : Type 0 where
+  front : Lexes
+  back : Lexes
+  whole : x ≡ front ++ (byte closing ∷ back)
+  taken : take n x ≡ front ++ (byte closing ∷ [])
+
+cut-there : (i : Inside) (x : Lexes) → isEmpty (drop (suc (passed pairsFirst enters i x)) x) ≡ false → Cut x (suc (passed pairsFirst enters i x))
+unfolding passed pairsFirst isEmpty
+cut-there i [] h = clash refl h
+cut-there i (x ∷ s) h =
+    either (λ (n : ℕ). isEmpty (drop (suc n) (x ∷ s)) ≡ false → Cut (x ∷ s) (suc n)) (pairsFirst i x)
+    (λ e g.
+    let b = byte-is closing x refl (and-left (eqb (byteOf x) closing) _ e) in
+    record { front = []; back = s; whole = ap (λ (y : Lex Bytes). y ∷ s) b; taken = ap (λ (y : Lex Bytes). y ∷ []) b })
+    (λ e g.
+    let r = cut-there (enters i x) s g in
+    record { front = x ∷ r .front; back = r .back; whole = ap (λ (y : Lexes). x ∷ y) (r .whole); taken = ap (λ (y : Lexes). x ∷ y) (r .taken) }) h
+
+-- a sequence symbol is there
+sequence-there : (x : Lexes) → isSequence (unlexed x) ≡ true → isEmpty x ≡ false
+unfolding isEmpty unlexed isSequence
+sequence-there [] h = absurd (false≢true h)
+sequence-there (y ∷ x) h = refl
+
+condition-cut : (x : Lexes) → eqb (conditionEnd x) 0 ≡ false → isEmpty (drop (conditionEnd x) x) ≡ false → Cut x (conditionEnd x)
+unfolding conditionEnd
+condition-cut x z h =
+    either (λ (n : ℕ). eqb n 0 ≡ false → isEmpty (drop n x) ≡ false → Cut x n) (startsOpen x) (λ e y g. cut-there outside x g) (λ e y g. clash refl y) z h
+
+record Condition (x : Lexes) : Type 0 where
+  cut : Cut x (conditionEnd x)
+  clean : NoLone (drop (conditionEnd x) x)
+
+condition-in : (x : Lexes) → isSequence (targetBehind x) ≡ true → Condition x
+unfolding targetBehind isSequence
+condition-in x h =
+    either (λ (s : Bytes). isSequence s ≡ true → Condition x) (eqb (conditionEnd x) 0) (λ e g. absurd (false≢true g))
+    (λ e g. record {
+      cut = condition-cut x e (sequence-there (drop (conditionEnd x) x) g);
+      clean = no-lone-in (drop (conditionEnd x) x) (sequence-no-ampersand (unlexed (drop (conditionEnd x) x)) g);
+    }) h
+
+-- ---- every line, where the lexemes of a field are in the order that the reader gives
+
+module _ (lexed-read : (f : Bytes → Slot) (quotes : Bool) (s : Bytes) → every isNoLone (lexed quotes s) ≡ true → isField quotes (map (mapLex f) (lexed quotes s)) ≡ true)
+    (front-read : (quotes odd : Bool) (b : Before) (x y : List (Lex Slot)) → isRead quotes odd b (x ++ (byte closing ∷ y)) ≡ true → isRead quotes odd b (x ++ (byte closing ∷ [])) ≡ true) where
+  module _ (g : Bytes → Slot) where
+    word-read : (s : Bytes) → every isNoSpace s ≡ true → NoLone (lexed false s) → isWordField (map (mapLex g) (lexed false s)) ≡ true
+    unfolding isWordField
+    word-read s w n = both (lexed-read g false s n) (lexed-no-space g false s w)
+
+    operand-free : (holds : Bool) (x : Lexes) → Free (isEnd holds) outside x → isField true (map (mapLex g) x) ≡ true → isOperand holds (map (mapLex g) x) ≡ true
+    unfolding isOperand
+    operand-free holds x w f = both f (eq-eqb _ _ (free-passed (isEnd holds) outside (map (mapLex g) x) (free-mapped g holds outside x w)))
+
+    operand-read : (holds : Bool) (s : Bytes) → Free (isEnd holds) outside (lexed true s) → NoLone (lexed true s) → isOperand holds (map (mapLex g) (lexed true s)) ≡ true
+    operand-read holds s w n = operand-free holds (lexed true s) w (lexed-read g true s n)
+
+    condition-read : (s : Bytes) → let x = lexed true s in isSequence (targetBehind x) ≡ true → Free (isEnd true) outside x → NoLone (take (conditionEnd x) x)
+        → isOperand true (map (mapLex g) (take (conditionEnd x) x)) ≡ true
+    unfolding isField mapLex
+    condition-read s t w n =
+        let x = lexed true s in
+        let e = conditionEnd x in
+        let c = condition-in x t in
+        let k = c .cut in
+        let clean : NoLone x = ap (every isNoLone) (sym (take-append-drop e x)) ∙ every-joined isNoLone (take e x) (drop e x) n (c .clean) in
+        let m = mapLex g in
+        let whole : map m x ≡ map m (k .front) ++ (byte closing ∷ map m (k .back)) = ap (map m) (k .whole) ∙ map-append m (k .front) (byte closing ∷ k .back) in
+        let taken : map m (take e x) ≡ map m (k .front) ++ (byte closing ∷ []) = ap (map m) (k .taken) ∙ map-append m (k .front) (byte closing ∷ []) in
+        let r = front-read true false fieldStart (map m (k .front)) (map m (k .back)) (ap (isRead true false fieldStart) (sym whole) ∙ lexed-read g true s clean) in
+        operand-free true (take e x) (free-front (isEnd true) e outside x w) (ap (isRead true false fieldStart) taken ∙ r)
+
+    module _ (t : Bytes → ℕ) (l : Bytes) (statement : isRemark l ≡ false) where
+      abbrev f : Fields
+      f = fieldsOf l
+
+      abbrev AsRead : Line Bytes Bytes → Type 0
+      AsRead y = isReadLine (mapLine g t y) ≡ true
+
+      name-read : (x : Lexes) → x ≡ choose (isSequence (f .name)) [] (lexed false (f .name)) → isModelName (f .name) ≡ true → NoLone x
+          → (isWordField (map (mapLex g) x) ≡ true) × (startsPlainly (map (mapLex g) x) ≡ true)
+      unfolding isWordField isField isRead startsPlainly every
+      name-read x e named n =
+          let Q : Lexes → Type 0 = λ y. NoLone y → (isWordField (map (mapLex g) y) ≡ true) × (startsPlainly (map (mapLex g) y) ≡ true) in
+          let s = f .name in
+          subst Q (sym e)
+          (either Q (isSequence s) (λ q c. (refl, refl))
+          (λ q c. (
+            word-read s (name-no-space l) c,
+            starts-plainly g (lexed false s)
+            (ap (startsWith (bytes ".")) (lexed-back false s) ∙ not-true (startsWith (bytes ".") s) (no-period s named q))
+            (ap (startsWith (bytes "*")) (lexed-back false s) ∙ name-no-star l statement),
+          ))) n
+
+      operation-read : isEmpty (f .operation) ≡ false → isLanguageWord (f .operation) ≡ false → NoLone (lexed false (f .operation))
+          → isModelOperation (map (mapLex g) (lexed false (f .operation))) ≡ true
+      unfolding isModelOperation
+      operation-read e w n =
+          let o = f .operation in
+          both (ap not (empty-as-read g (lexed false o) ∙ (ap isEmpty (lexed-back false o) ∙ e))) (both (word-read o (operation-no-space l) n) (no-word-read g o w))
+
+      model-read : isModelName (f .name) ≡ true → isEmpty (f .operation) ≡ false → isLanguageWord (f .operation) ≡ false → Free (isEnd false) outside (lexed true (f .operand))
+          → Clean (modelOf f) → AsRead (modelOf f)
+      unfolding isReadLine isReadBy modelOf mapLine mapDoes
+      model-read named e w r c =
+          let n = name-read (modelOf f .name) refl named (c .0) in
+          both (n .0) (both (n .1) (both (operation-read e w (c .1 .0)) (operand-read false (f .operand) r (c .1 .1))))
+
+      says-read : (before : List Bytes) (s : Statement) → Free (isEnd (isHolding s)) outside (lexed true (f .operand)) → (isModel s ≡ true → isLanguageWord (f .operation) ≡ false)
+          → Clean (says l f s) → areFieldsGood f s ≡ true → isMisplaced before (f .operation) s ≡ false → AsRead (says l f s)
+      unfolding isReadLine isReadBy says doing mapLine mapDoes areFieldsGood isMisplaced
+      says-read before macro r w c a m = refl
+      says-read before mend r w c a m = refl
+      says-read before mexit r w c a m = refl
+      says-read before (local k) r w c a m = refl
+      says-read before (global k) r w c a m = refl
+      says-read before (set setA) r w c a m = operand-read false (f .operand) r (c .1 .1)
+      says-read before (set setB) r w c a m = operand-read true (f .operand) r (c .1 .1)
+      says-read before (set setC) r w c a m = operand-read false (f .operand) r (c .1 .1)
+      says-read before aif r w c a m = condition-read (f .operand) (and-right (isNamedOrEmpty (f .name)) (isSequence (targetBehind (lexed true (f .operand)))) a) r (c .1 .1)
+      says-read before ago r w c a m = refl
+      says-read before anop r w c a m = refl
+      says-read before actr r w c a m = operand-read false (f .operand) r (c .1 .1)
+      says-read before model r w c a m =
+          either (λ (y : Line Bytes Bytes). Clean y → AsRead y) (isCopied f) {x = doing (text l)} {y = modelOf f} (λ e k. refl) (λ e k. model-read a m (w refl) r k) c
+
+    line-read : (t : Bytes → ℕ) {p : Bytes} {before : List Bytes} {l : Bytes} {behind : List Bytes} → Stands p before l behind → Clean (read l) → isReadLine (mapLine g t (read l)) ≡ true
+    unfolding isReadLine isReadBy doing mapLine mapDoes operationOf
+    line-read t {before = before} {l = l} x c =
+        let P : Line Bytes Bytes → Type 0 = λ y. isReadLine (mapLine g t y) ≡ true in
+        by (isRemark l) (λ e. ⊎-elim (λ q. subst P (sym q) refl) (λ q. subst P (sym q) refl) (remark-says l e))
+        (λ e.
+        let q = fields-are l e in
+        let o = fieldsOf l .operation in
+        let w : read l ≡ says l (fieldsOf l) (statementOf o) = statement-says l e ∙ ap (λ (f : Fields). says l f (statementOf (f .operation))) q in
+        subst P (sym w)
+        (says-read t l e before (statementOf o) (statement-runs l) (model-is-no-word o) (subst Clean w c)
+        (ap (λ (f : Fields). areFieldsGood f (statementOf (f .operation))) (sym q) ∙ good-fields x e)
+        (ap (λ (f : Fields). isMisplaced before (f .operation) (statementOf (f .operation))) (sym q) ∙ in-place x e)))
+
+  lines-read : (gs : List (Bytes × Set)) (r : Reading) → Known r → every isReadLine (map (resolvedLine r gs) (r .body)) ≡ true
+  unfolding resolvedLine
+  lines-read gs r a =
+      every-each isReadLine (map (resolvedLine r gs) (r .body)) noLine
+      (λ j h.
+      let k : j < length (r .body) = subst (λ (n : ℕ). j < n) (length-map (r .body) (resolvedLine r gs)) h in
+      ap isReadLine (getD-mapped (resolvedLine r gs) (r .body) j [] noLine k)
+      ∙ line-read (resolved (r .names) gs) (λ t. lineNamed t (r .body)) (line-stands a j k) (line-clean a j k))
+
+  macro-read : (gs : List (Bytes × Set)) (x : Macro) → Proper x → isReadMacro (deckMacro gs (reading x)) ≡ true
+  unfolding isReadMacro deckMacro
+  macro-read gs x p = both (lines-read gs (reading x) (known-of x p)) (defaults-of gs x p)
+
+  pub decks-read : (library : Bytes) → verdict library ≡ accepted → every isReadMacro (resolvedLibrary library .macros) ≡ true
+  decks-read library e =
+      every-each isReadMacro (resolvedLibrary library .macros) noMacro (each-macro library e (λ m. isReadMacro m ≡ true) (macro-read _))
