@@ -5,41 +5,41 @@ use mathlib.Core.Logic.{⊎-elim}
 use mathlib.Core.Bool.{Bool, true, false, false≢true, _&&_, _||_, not}
 use mathlib.Core.List.{List, [], _∷_, _++_, map, map-append}
 use lib.Dec.{eqb}
-use lib.ListN.{length, getD, take, drop, take-append-drop, length-map}
-use borrow.Author.Tests.{eqb-true, eq-eqb, not-true, not-false}
+use lib.ListN.{length, take, drop, take-append-drop, length-map}
+use borrow.Author.Tests.{eqb-true, eq-eqb, not-true}
 use Rattle.text.specs.Bytes.{Bytes, bytes, same}
-use Rattle.text.specs.Characters.{letter, digit, letterOrDigit}
+use Rattle.text.specs.Characters.{letter, digit, letterOrDigit, inSet}
 use Rattle.text.specs.Words.{placeAmong, wordNumber, words}
 use Rattle.text.proofs.Same.{same-is}
 use Rattle.rules.specs.Choice.{choose, passed, run, every, onFirst}
 use Rattle.rules.specs.Limits.{nameLimit, macroNameLimit}
 use Rattle.rules.specs.Lexemes.{space, ampersand, apostrophe, opening, closing, comma, period, equals, Lex, byte, mark, ref, lone, byteOf, isPlain, Before, fieldStart, follows, isMark, after, marked, Mode, inText, afterAmpersand, inSymbol, symbols, lexed, unlexed, isName, isSequence, Inside, outside, enters, isBare}
-use Rattle.rules.specs.Fields.{isRemark, isCopiedRemark, isDroppedRemark, startsWith, isSpace, isNoSpace, Fields, fieldsOf, statementFields, endsOperand, operandEnd, holdsSpaces, isEmpty}
-use Rattle.rules.specs.Statement.{Set, setA, setB, setC, Statement, macro, mend, mexit, local, global, set, aif, ago, anop, actr, model, statements, statementOf, Does, passes, text, Line, mapLex, mapDoes, mapLine, pairsFirst, startsOpen, conditionEnd, isCopied, doing, modelOf, says, read}
+use Rattle.rules.specs.Fields.{isRemark, isCopiedRemark, startsWith, isSpace, isNoSpace, Fields, fieldsOf, endsOperand, operandEnd, holdsSpaces, isEmpty}
+use Rattle.rules.specs.Statement.{Set, setA, setB, setC, Statement, macro, mend, mexit, local, global, set, aif, ago, anop, actr, model, statements, statementOf, passes, text, Line, mapLex, mapDoes, mapLine, pairsFirst, startsOpen, conditionEnd, isCopied, doing, modelOf, says, read}
 use Rattle.rules.specs.Machine.{isLanguageWord}
 use Rattle.rules.specs.Calls.{parts, divided, hasEquals}
 use Rattle.rules.specs.Library.{Macro, lineNamed, keywordNames, operandParts, namesIn, operationOf}
 use Rattle.rules.specs.ByLines.{Reading, reading}
 use Rattle.rules.specs.Faults.{isMisplaced, isMacroName, isGoodPart, isDefault, areGoodParts, isNamedOrEmpty, isModelName, targetBehind, areFieldsGood, accepted, verdict}
 use Rattle.rules.proofs.Choices.{by, either, chosen, passed-over, and-left, and-right}
-use Rattle.rules.proofs.Logic.{All, clash, or-left, or-right}
-use Rattle.rules.proofs.Said.{isModel, model-is-no-word, statementOn, remark-says, statement-says}
+use Rattle.rules.proofs.Logic.{All, clash, or-left}
+use Rattle.rules.proofs.Said.{isModel, model-is-no-word, remark-says, statement-says}
 use Rattle.rules.proofs.Symbols.{getD-mapped}
 use Rattle.rules.proofs.NoLone.{isNoLone, NoLone}
-use Rattle.rules.proofs.ReadLines.{every-behind}
+use Rattle.rules.proofs.ReadLines.{InSet, every-behind, Holds, fields-held, written-in}
 use Rattle.rules.proofs.BodyLines.{Clean, line-clean}
-use Rattle.rules.proofs.Accepted.{Stands, in-place, good-fields, Known, line-stands}
+use Rattle.rules.proofs.Accepted.{Stands, well-written, in-place, good-fields, Known, line-stands}
 use Rattle.rules.proofs.Lossless.{lexed-back}
 use Rattle.rules.proofs.Pieces.{byte-is, Piece, parts-stand}
 use Rattle.rules.proofs.Defaults.{mark-same, after-same, default-again}
 use Rattle.rules.proofs.Walked.{Proper}
 use Rattle.rules.proofs.Prototypes.{title-is, title-named, parts-good}
-use Rattle.deck.specs.Slots.{Slot, resolved, resolvedLine, DeckMacro, deckMacro, noMacro, noLine, resolvedLibrary}
+use Rattle.deck.specs.Slots.{Slot, resolved, resolvedLine, deckMacro, noMacro, noLine, resolvedLibrary}
 use Rattle.deck.specs.AsRead.{lastByte, isRead, isField, isWordField, isEnd, isOperand, startsPlainly, isModelOperation, isReadBy, isReadLine, isBareComma, isReadDefault}
 use Rattle.deck.specs.Good.{isReadMacro}
 use Rattle.deck.proofs.Keywords.{Keyworded, part-split, keyword-is, default-good, first-of-good, no-keyword}
 use Rattle.deck.proofs.Tests.{every-each}
-use Rattle.deck.proofs.Macros.{Each, each-macro}
+use Rattle.deck.proofs.Macros.{each-macro}
 use Rattle.deck.proofs.Lines.{no-period, fields-are, known-of}
 use Rattle.deck.proofs.InOrder.{both}
 
@@ -248,9 +248,7 @@ holds-none o h =
 -- by the line's statement
 statement-runs : (l : Bytes) → Free (isEnd (isHolding (statementOf (fieldsOf l .operation)))) outside (lexed true (fieldsOf l .operand))
 statement-runs l =
-    let o = fieldsOf l .operation in
-    let x = lexed true (fieldsOf l .operand) in
-    go (isHolding (statementOf o)) (holds-none o)
+    go (isHolding (statementOf (fieldsOf l .operation))) (holds-none (fieldsOf l .operation))
   where
     weaker : (b : Bool) → Free (isEnd b) outside (lexed true (fieldsOf l .operand)) → Free (isEnd true) outside (lexed true (fieldsOf l .operand))
     weaker true h = h
@@ -500,24 +498,27 @@ condition-in x h =
 
 -- ---- every line, where the lexemes of a field are in the order that the reader gives
 
-module _ (lexed-read : (f : Bytes → Slot) (quotes : Bool) (s : Bytes) → every isNoLone (lexed quotes s) ≡ true → isField quotes (map (mapLex f) (lexed quotes s)) ≡ true)
+-- Two facts of fields are asked for: the lexemes of a field whose bytes are in the set are such as the reader gives them (outside the set this fails: a text byte
+-- 0 looks like the end of a variable symbol), and so are the first of them up to a `)`.
+
+module _ (lexed-read : (f : Bytes → Slot) (quotes : Bool) (s : Bytes) → every inSet s ≡ true → every isNoLone (lexed quotes s) ≡ true → isField quotes (map (mapLex f) (lexed quotes s)) ≡ true)
     (front-read : (quotes odd : Bool) (b : Before) (x y : List (Lex Slot)) → isRead quotes odd b (x ++ (byte closing ∷ y)) ≡ true → isRead quotes odd b (x ++ (byte closing ∷ [])) ≡ true) where
   module _ (g : Bytes → Slot) where
-    word-read : (s : Bytes) → every isNoSpace s ≡ true → NoLone (lexed false s) → isWordField (map (mapLex g) (lexed false s)) ≡ true
+    word-read : (s : Bytes) → InSet s → every isNoSpace s ≡ true → NoLone (lexed false s) → isWordField (map (mapLex g) (lexed false s)) ≡ true
     unfolding isWordField
-    word-read s w n = both (lexed-read g false s n) (lexed-no-space g false s w)
+    word-read s i w n = both (lexed-read g false s i n) (lexed-no-space g false s w)
 
     operand-free : (holds : Bool) (x : Lexes) → Free (isEnd holds) outside x → isField true (map (mapLex g) x) ≡ true → isOperand holds (map (mapLex g) x) ≡ true
     unfolding isOperand
     operand-free holds x w f = both f (eq-eqb _ _ (free-passed (isEnd holds) outside (map (mapLex g) x) (free-mapped g holds outside x w)))
 
-    operand-read : (holds : Bool) (s : Bytes) → Free (isEnd holds) outside (lexed true s) → NoLone (lexed true s) → isOperand holds (map (mapLex g) (lexed true s)) ≡ true
-    operand-read holds s w n = operand-free holds (lexed true s) w (lexed-read g true s n)
+    operand-read : (holds : Bool) (s : Bytes) → InSet s → Free (isEnd holds) outside (lexed true s) → NoLone (lexed true s) → isOperand holds (map (mapLex g) (lexed true s)) ≡ true
+    operand-read holds s i w n = operand-free holds (lexed true s) w (lexed-read g true s i n)
 
-    condition-read : (s : Bytes) → let x = lexed true s in isSequence (targetBehind x) ≡ true → Free (isEnd true) outside x → NoLone (take (conditionEnd x) x)
+    condition-read : (s : Bytes) → InSet s → let x = lexed true s in isSequence (targetBehind x) ≡ true → Free (isEnd true) outside x → NoLone (take (conditionEnd x) x)
         → isOperand true (map (mapLex g) (take (conditionEnd x) x)) ≡ true
     unfolding isField mapLex
-    condition-read s t w n =
+    condition-read s i t w n =
         let x = lexed true s in
         let e = conditionEnd x in
         let c = condition-in x t in
@@ -526,10 +527,10 @@ module _ (lexed-read : (f : Bytes → Slot) (quotes : Bool) (s : Bytes) → ever
         let m = mapLex g in
         let whole : map m x ≡ map m (k .front) ++ (byte closing ∷ map m (k .back)) = ap (map m) (k .whole) ∙ map-append m (k .front) (byte closing ∷ k .back) in
         let taken : map m (take e x) ≡ map m (k .front) ++ (byte closing ∷ []) = ap (map m) (k .taken) ∙ map-append m (k .front) (byte closing ∷ []) in
-        let r = front-read true false fieldStart (map m (k .front)) (map m (k .back)) (ap (isRead true false fieldStart) (sym whole) ∙ lexed-read g true s clean) in
+        let r = front-read true false fieldStart (map m (k .front)) (map m (k .back)) (ap (isRead true false fieldStart) (sym whole) ∙ lexed-read g true s i clean) in
         operand-free true (take e x) (free-front (isEnd true) e outside x w) (ap (isRead true false fieldStart) taken ∙ r)
 
-    module _ (t : Bytes → ℕ) (l : Bytes) (statement : isRemark l ≡ false) where
+    module _ (t : Bytes → ℕ) (l : Bytes) (statement : isRemark l ≡ false) (h : Holds l (fieldsOf l)) where
       abbrev f : Fields
       f = fieldsOf l
 
@@ -545,10 +546,10 @@ module _ (lexed-read : (f : Bytes → Slot) (quotes : Bool) (s : Bytes) → ever
           subst Q (sym e)
           (either Q (isSequence s) (λ q c. (refl, refl))
           (λ q c. (
-            word-read s (name-no-space l) c,
+            word-read s (h .name-in) (name-no-space l) c,
             starts-plainly g (lexed false s)
-            (ap (startsWith (bytes ".")) (lexed-back false s) ∙ not-true (startsWith (bytes ".") s) (no-period s named q))
-            (ap (startsWith (bytes "*")) (lexed-back false s) ∙ name-no-star l statement),
+                (ap (startsWith (bytes ".")) (lexed-back false s) ∙ not-true (startsWith (bytes ".") s) (no-period s named q))
+                (ap (startsWith (bytes "*")) (lexed-back false s) ∙ name-no-star l statement),
           ))) n
 
       operation-read : isEmpty (f .operation) ≡ false → isLanguageWord (f .operation) ≡ false → NoLone (lexed false (f .operation))
@@ -556,14 +557,14 @@ module _ (lexed-read : (f : Bytes → Slot) (quotes : Bool) (s : Bytes) → ever
       unfolding isModelOperation
       operation-read e w n =
           let o = f .operation in
-          both (ap not (empty-as-read g (lexed false o) ∙ (ap isEmpty (lexed-back false o) ∙ e))) (both (word-read o (operation-no-space l) n) (no-word-read g o w))
+          both (ap not (empty-as-read g (lexed false o) ∙ (ap isEmpty (lexed-back false o) ∙ e))) (both (word-read o (h .operation-in) (operation-no-space l) n) (no-word-read g o w))
 
       model-read : isModelName (f .name) ≡ true → isEmpty (f .operation) ≡ false → isLanguageWord (f .operation) ≡ false → Free (isEnd false) outside (lexed true (f .operand))
           → Clean (modelOf f) → AsRead (modelOf f)
       unfolding isReadLine isReadBy modelOf mapLine mapDoes
       model-read named e w r c =
           let n = name-read (modelOf f .name) refl named (c .0) in
-          both (n .0) (both (n .1) (both (operation-read e w (c .1 .0)) (operand-read false (f .operand) r (c .1 .1))))
+          both (n .0) (both (n .1) (both (operation-read e w (c .1 .0)) (operand-read false (f .operand) (h .operand-in) r (c .1 .1))))
 
       says-read : (before : List Bytes) (s : Statement) → Free (isEnd (isHolding s)) outside (lexed true (f .operand)) → (isModel s ≡ true → isLanguageWord (f .operation) ≡ false)
           → Clean (says l f s) → areFieldsGood f s ≡ true → isMisplaced before (f .operation) s ≡ false → AsRead (says l f s)
@@ -573,13 +574,13 @@ module _ (lexed-read : (f : Bytes → Slot) (quotes : Bool) (s : Bytes) → ever
       says-read before mexit r w c a m = refl
       says-read before (local k) r w c a m = refl
       says-read before (global k) r w c a m = refl
-      says-read before (set setA) r w c a m = operand-read false (f .operand) r (c .1 .1)
-      says-read before (set setB) r w c a m = operand-read true (f .operand) r (c .1 .1)
-      says-read before (set setC) r w c a m = operand-read false (f .operand) r (c .1 .1)
-      says-read before aif r w c a m = condition-read (f .operand) (and-right (isNamedOrEmpty (f .name)) (isSequence (targetBehind (lexed true (f .operand)))) a) r (c .1 .1)
+      says-read before (set setA) r w c a m = operand-read false (f .operand) (h .operand-in) r (c .1 .1)
+      says-read before (set setB) r w c a m = operand-read true (f .operand) (h .operand-in) r (c .1 .1)
+      says-read before (set setC) r w c a m = operand-read false (f .operand) (h .operand-in) r (c .1 .1)
+      says-read before aif r w c a m = condition-read (f .operand) (h .operand-in) (and-right (isNamedOrEmpty (f .name)) (isSequence (targetBehind (lexed true (f .operand)))) a) r (c .1 .1)
       says-read before ago r w c a m = refl
       says-read before anop r w c a m = refl
-      says-read before actr r w c a m = operand-read false (f .operand) r (c .1 .1)
+      says-read before actr r w c a m = operand-read false (f .operand) (h .operand-in) r (c .1 .1)
       says-read before model r w c a m =
           either (λ (y : Line Bytes Bytes). Clean y → AsRead y) (isCopied f) {x = doing (text l)} {y = modelOf f} (λ e k. refl) (λ e k. model-read a m (w refl) r k) c
 
@@ -593,7 +594,7 @@ module _ (lexed-read : (f : Bytes → Slot) (quotes : Bool) (s : Bytes) → ever
         let o = fieldsOf l .operation in
         let w : read l ≡ says l (fieldsOf l) (statementOf o) = statement-says l e ∙ ap (λ (f : Fields). says l f (statementOf (f .operation))) q in
         subst P (sym w)
-        (says-read t l e before (statementOf o) (statement-runs l) (model-is-no-word o) (subst Clean w c)
+        (says-read t l e (fields-held l (written-in l (well-written x) .1)) before (statementOf o) (statement-runs l) (model-is-no-word o) (subst Clean w c)
         (ap (λ (f : Fields). areFieldsGood f (statementOf (f .operation))) (sym q) ∙ good-fields x e)
         (ap (λ (f : Fields). isMisplaced before (f .operation) (statementOf (f .operation))) (sym q) ∙ in-place x e)))
 
