@@ -25,7 +25,7 @@ use Rattle.deck.specs.Good.{isLexeme, areLexemes}
 use Rattle.rules.proofs.Logic.{All}
 use Rattle.deck.proofs.Lists.{all-mapped}
 
-both : {a b : Bool} → a ≡ true → b ≡ true → (a && b) ≡ true
+pub both : {a b : Bool} → a ≡ true → b ≡ true → (a && b) ≡ true
 both {a} {b} e f = ap (λ (c : Bool). c && b) e ∙ f
 
 every-lexeme : (f : Bytes → Slot) (x : List (Lex Bytes)) → InSet (unlexed x) → NoLone x → every isLexeme (map (mapLex f) x) ≡ true

@@ -35,10 +35,10 @@ Lexes = List (Lex Bytes)
 
 -- ---- a part with `=`: a symbol, `=`, the default
 
-record Keyworded (p : Lexes) : Type 0 where
-  name : Bytes
-  default : Lexes
-  are : p ≡ ref name ∷ (byte equals ∷ default)
+pub record Keyworded (p : Lexes) : Type 0 where
+  pub name : Bytes
+  pub default : Lexes
+  pub are : p ≡ ref name ∷ (byte equals ∷ default)
 
 no-symbol : {P : Type 0} (x : Lex Bytes) (s : Lexes) (k : ℕ) → isOneSymbol (take k (x ∷ s)) ≡ true → ((t : Lexes) → isOneSymbol (x ∷ t) ≡ false) → P
 unfolding isOneSymbol
@@ -50,7 +50,7 @@ second-equals : (n : Bytes) (d : Lexes) → equalsAt (ref n ∷ (byte equals ∷
 unfolding equalsAt passed isBare byteOf choose enters outside
 second-equals n d = refl
 
-part-split : (p : Lexes) → isOneSymbol (beforeEquals p) ≡ true → hasEquals p ≡ true → Keyworded p
+pub part-split : (p : Lexes) → isOneSymbol (beforeEquals p) ≡ true → hasEquals p ≡ true → Keyworded p
 unfolding beforeEquals isOneSymbol hasEquals equalsAt passed isBare byteOf choose enters outside
 part-split [] h e = absurd (false≢true h)
 part-split (byte c ∷ x) h e = no-symbol (byte c) x (equalsAt (byte c ∷ x)) h (λ t. refl)
@@ -76,7 +76,7 @@ module _ (p : Lexes) (k : Keyworded p) where
       ap (λ (x : Lexes). drop (suc (equalsAt x)) x) (k .are)
       ∙ ap (λ (n : ℕ). drop (suc n) (ref (k .name) ∷ (byte equals ∷ k .default))) (second-equals (k .name) (k .default))
 
-  keyword-is : (ps : List Lexes) → hasEquals p ≡ true → keywordNames (p ∷ ps) ≡ (k .name, unlexed (k .default)) ∷ keywordNames ps
+  pub keyword-is : (ps : List Lexes) → hasEquals p ≡ true → keywordNames (p ∷ ps) ≡ (k .name, unlexed (k .default)) ∷ keywordNames ps
   unfolding keywordNames withDefault
   keyword-is ps e =
       ap (λ (s : List (Bytes × Bytes)). s ++ keywordNames ps) (chosen _ _ e ∙ λ i. withDefault (start-is i) (unlexed (default-is i)))
@@ -86,17 +86,17 @@ module _ (p : Lexes) (k : Keyworded p) where
   unfolding hasLongSymbol any refsIn
   name-short h = or-left (isLong (k .name)) false (ap hasLongSymbol (sym before-is) ∙ h)
 
-  default-good : isGoodPart p ≡ true → hasEquals p ≡ true → isDefault (k .default) ≡ true
+  pub default-good : isGoodPart p ≡ true → hasEquals p ≡ true → isDefault (k .default) ≡ true
   unfolding isGoodPart
   default-good g e =
       ap isDefault (sym default-is)
       ∙ else-so (not (hasEquals p)) (isDefault (drop (suc (equalsAt p)) p)) (and-right (isOneSymbol (beforeEquals p)) _ g) (ap not e)
 
-first-of-good : (p : Lexes) → isGoodPart p ≡ true → isOneSymbol (beforeEquals p) ≡ true
+pub first-of-good : (p : Lexes) → isGoodPart p ≡ true → isOneSymbol (beforeEquals p) ≡ true
 unfolding isGoodPart
 first-of-good p g = and-left (isOneSymbol (beforeEquals p)) _ g
 
-no-keyword : (p : Lexes) (ps : List Lexes) → hasEquals p ≡ false → keywordNames (p ∷ ps) ≡ keywordNames ps
+pub no-keyword : (p : Lexes) (ps : List Lexes) → hasEquals p ≡ false → keywordNames (p ∷ ps) ≡ keywordNames ps
 unfolding keywordNames
 no-keyword p ps e = ap (λ (s : List (Bytes × Bytes)). s ++ keywordNames ps) (passed-over _ _ e)
 

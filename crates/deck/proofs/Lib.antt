@@ -14,6 +14,7 @@ pub mod Limits
 pub mod SlotKinds
 pub mod Library
 pub mod InOrder
+pub mod ReadDecks
 pub mod Fits
 pub mod Size
 pub mod LexedRead

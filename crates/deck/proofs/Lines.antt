@@ -239,12 +239,12 @@ copied-no-sequence f h =
     (and-right (every isPlain (lexed true (f .operand))) _
     (and-right (every isPlain (lexed false (f .operation))) _ (and-right (every isPlain (lexed false (f .name))) _ h)))
 
-no-period : (name : Bytes) → isModelName name ≡ true → isSequence name ≡ false → not (startsWith (bytes ".") name) ≡ true
+pub no-period : (name : Bytes) → isModelName name ≡ true → isSequence name ≡ false → not (startsWith (bytes ".") name) ≡ true
 unfolding isModelName
 no-period name h s =
     by (startsWith (bytes ".") name) (λ e. clash (else-so (not (startsWith (bytes ".") name)) (isSequence name) h (ap not e)) s) (λ e. ap not e)
 
-fields-are : (l : Bytes) → isRemark l ≡ false → statementFields l ≡ fieldsOf l
+pub fields-are : (l : Bytes) → isRemark l ≡ false → statementFields l ≡ fieldsOf l
 unfolding statementFields
 fields-are l e = passed-over _ _ e
 

@@ -323,12 +323,12 @@ follows-same b [] (k ∷ d) rest h e = nil-is-not e
 follows-same b (c ∷ s) (k ∷ d) rest h e =
     ap follows (ap (λ (x : Lex Bytes). unlexed (x ∷ d)) (sym (first-is e)) ∙ marked-unlexed b c s d)
 
-mark-same : (b : Before) (c : ℕ) (s t : Bytes) → follows s ≡ follows t → isMark b c s ≡ isMark b c t
+pub mark-same : (b : Before) (c : ℕ) (s t : Bytes) → follows s ≡ follows t → isMark b c s ≡ isMark b c t
 unfolding isMark
 mark-same b c s t e = λ i.
     eqb c apostrophe && (not (b .quoted) && (e i && (member (b .first) (bytes "KNTL") && not (letterOrDigit (b .second) || eqb (b .second) ampersand))))
 
-after-same : (b : Before) (c : ℕ) (s t : Bytes) → isMark b c s ≡ isMark b c t → after true b c s ≡ after true b c t
+pub after-same : (b : Before) (c : ℕ) (s t : Bytes) → isMark b c s ≡ isMark b c t → after true b c s ≡ after true b c t
 unfolding after
 after-same b c s t e = λ i. record {
   second = b .first;
