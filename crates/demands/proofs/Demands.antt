@@ -20,7 +20,7 @@ use Rattle.rules.proofs.OneKind.{one-kind}
 use Rattle.deck.specs.Slots.{Slot, DeckMacro, Deck, noMacro, resolvedLibrary}
 use Rattle.deck.specs.Coding.{Coder, four}
 use Rattle.deck.specs.Coders.{contents, encoded, decoded}
-use Rattle.deck.specs.Good.{areLexemes, isGood, ifGood, goodDeck}
+use Rattle.deck.specs.Good.{areLexemes, isSound, isReadMacro, isGood, ifGood, goodDeck}
 use Rattle.deck.specs.ByDeck.{byDeck}
 use Rattle.deck.specs.Translation.{Translated, deck, refused, deckOf, translatedBy, translated}
 use Rattle.deck.proofs.Coding.{deck-back, deck-bytes}
@@ -29,6 +29,8 @@ use Rattle.deck.proofs.InOrder.{InOrder, lexemes-in-order}
 use Rattle.deck.proofs.Fits.{fits-deck}
 use Rattle.deck.proofs.Size as Size
 use Rattle.deck.proofs.Library.{hasLexemes, good-but-lexemes}
+use Rattle.deck.proofs.LexedRead.{set-has-no-nul, lexed-is-read, front-is-read}
+use Rattle.deck.proofs.ReadDecks.{decks-read}
 
 -- each line's lexemes, as one test
 lines-lexed : (ls : List (Line Slot ℕ)) → All InOrder ls → every hasLexemes ls ≡ true
@@ -36,10 +38,19 @@ unfolding every
 lines-lexed [] h = refl
 lines-lexed (l ∷ ls) h = λ i. ((h .0 .0 i && (h .0 .1 .0 i && h .0 .1 .1 i)) && lines-lexed ls (h .1) i)
 
-pub deck-is-good : (library : Bytes) → verdict library ≡ accepted → isGood (resolvedLibrary library) ≡ true
-deck-is-good library e =
+-- everything is in range, well formed and in order
+deck-is-sound : (library : Bytes) → verdict library ≡ accepted → isSound (resolvedLibrary library) ≡ true
+deck-is-sound library e =
     good-but-lexemes library e (one-kind library e)
     (λ k h. lines-lexed _ (all-at (λ (m : DeckMacro). All InOrder (m .lines)) (resolvedLibrary library .macros) noMacro k (lexemes-in-order library e) h))
+
+-- and its fields and defaults are as the reader gives them
+deck-is-read : (library : Bytes) → verdict library ≡ accepted → every isReadMacro (resolvedLibrary library .macros) ≡ true
+deck-is-read = decks-read (λ f quotes s held clean. lexed-is-read f quotes s (set-has-no-nul s held) clean) front-is-read
+
+pub deck-is-good : (library : Bytes) → verdict library ≡ accepted → isGood (resolvedLibrary library) ≡ true
+unfolding isGood
+deck-is-good library e = λ i. deck-is-sound library e i && deck-is-read library e i
 
 -- a translated deck has at most 65,536 bytes, each below 256
 pub deck-size : (library : Bytes) → verdict library ≡ accepted → length (deckOf library) ≤ 65536
