@@ -1,0 +1,6 @@
+-- What the proofs of several functions use.
+pub mod Places
+pub mod Answers
+pub mod Numbers
+pub mod While
+pub mod Chains
