@@ -4,3 +4,4 @@ pub mod Answers
 pub mod Numbers
 pub mod While
 pub mod Chains
+pub mod Rules

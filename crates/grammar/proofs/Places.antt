@@ -14,8 +14,8 @@ use Rattle.rules.specs.Choice.{choose}
 use Rattle.rules.specs.Lexemes.{Lex, byte, mark, ref, lone, byteOf}
 use Rattle.rules.specs.Fields.{isEmpty}
 use Rattle.rules.specs.Statement.{setA, setB, setC}
-use Rattle.rules.specs.Grammar.{Kind, parameter, symbol, syslist, sysndx, sysect, unknown, plain, startsMark, rest}
-use Rattle.rules.proofs.Choices.{by, either}
+use Rattle.rules.specs.Grammar.{Kind, parameter, symbol, syslist, sysndx, sysect, unknown, plain, startsMark, rest, isAttribute}
+use Rattle.rules.proofs.Choices.{by, either, and-right}
 use Rattle.grammar.specs.Tokens.{kindOf, lexOf, toksAt}
 use Rattle.grammar.specs.Kinds.{numberOf, lexNumber, kindNumber}
 
@@ -28,6 +28,10 @@ module _ (kinds code : Bytes) where
       drop-map zero l = refl
       drop-map (suc n) [] = refl
       drop-map (suc n) (b ∷ l) = drop-map n l
+
+  pub toks-rest : (at : ℕ) → rest (toksAt kinds code at) ≡ toksAt kinds code (at + 1)
+  unfolding rest
+  toks-rest at = toks-drop at 1
 
   pub toks-end : (at : ℕ) → length code ≤ at → toksAt kinds code at ≡ []
   unfolding toksAt
@@ -163,6 +167,14 @@ module _ (kinds code : Bytes) where
 
     pub text-inside : at < length code
     text-inside = within at text-step
+
+  pub attribute-inside : (at c : ℕ) → isAttribute c (toksAt kinds code at) ≡ true → at + 1 < length code
+  unfolding isAttribute startsMark
+  attribute-inside at c h = go (toksAt kinds code (at + 1)) refl (ap startsMark (sym (toks-rest at)) ∙ and-right (eqb (plain (toksAt kinds code at)) c) (startsMark (rest (toksAt kinds code at))) h)
+    where
+      go : (x : List (Lex Kind)) → toksAt kinds code (at + 1) ≡ x → startsMark (toksAt kinds code (at + 1)) ≡ true → at + 1 < length code
+      go [] e h = absurd (true≢false (sym h ∙ ap startsMark e))
+      go (y ∷ x) e h = within (at + 1) e
 
   -- a variable symbol
   pub record RefAt (at n : ℕ) : Type 0 where

@@ -1,15 +1,30 @@
--- Where the next operand of a chain stands, as a number: 0 where the chain ends.
+-- What functions answer: what a rule gives, and where the next operand of a chain stands, as a number: 0 where the chain ends.
 use Prim.Native.Nat.{ℕ}
 use mathlib.Core.Path.{_≡_}
 use mathlib.Core.Bool.{Bool, true, false}
 use mathlib.Core.List.{List}
+use lib.Dec.{eqb}
 use lib.ListN.{drop}
 use Rattle.text.specs.Bytes.{Bytes}
-use Rattle.rules.specs.Lexemes.{Lex}
-use Rattle.rules.specs.Grammar.{Kind, Got, got, refused, then}
+use Rattle.rules.specs.Choice.{choose}
+use Rattle.rules.specs.Lexemes.{Lex, comma}
+use Rattle.rules.specs.Grammar.{Kind, parameter, symbol, syslist, sysndx, sysect, unknown, Got, got, refused, plain, rest, then, broken, closed}
 use Rattle.rules.specs.Form.{Nothing}
 use Rattle.grammar.specs.Tokens.{toksAt, tells}
 use Rattle.grammar.specs.declared.Formed.{Formed}
+
+-- a function's answer at a place of a field is what a rule of the grammar gives for the lexemes from there on
+abbrev pub Tells : (List (Lex Kind) → Got Nothing Kind) → Bytes → Bytes → ℕ → Formed → Type 0
+Tells rule kinds code at r = tells (toksAt kinds code) r ≡ rule (toksAt kinds code at)
+
+-- the subscripts of a reference of this kind, where nothing is kept of them
+unfoldable pub subscribed : (List (Lex Kind) → Got Nothing Kind) → Kind → List (Lex Kind) → Got Nothing Kind
+subscribed inner parameter x = then (inner (rest x)) closed
+subscribed inner (symbol k) x = broken x
+subscribed inner syslist x = then (inner (rest x)) λ n y. choose (eqb (plain y) comma) (then (inner (rest y)) closed) (closed tt y)
+subscribed inner sysndx x = broken x
+subscribed inner sysect x = broken x
+subscribed inner unknown x = broken x
 
 -- what was read is well formed, and the test holds of what follows
 unfoldable pub goesBy : (List (Lex Kind) → Bool) → Got Nothing Kind → Bool

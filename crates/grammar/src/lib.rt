@@ -5,14 +5,16 @@ ghost use mathlib.Core.List.{List, [], _∷_};
 ghost use Prim.Native.Nat.{ℕ, _+_, _<_};
 ghost use lib.Dec.{eqb};
 ghost use lib.ListN.{length, getD};
-ghost use Rattle.text.specs.Bytes.{Bytes};
+ghost use mathlib.Core.Option.{some};
+ghost use Rattle.text.specs.Bytes.{Bytes, member};
+ghost use Rattle.rules.specs.Choice.{choose};
 ghost use Rattle.rules.specs.Lexemes.{Lex};
-ghost use Rattle.rules.specs.Grammar.{Kind, Got, plain, startsMark, isAttribute, then, decimalNumber};
+ghost use Rattle.rules.specs.Grammar.{Kind, Got, got, plain, startsMark, isAttribute, then, broken, decimalNumber, deeper, referred, term, product, arithmetic};
 ghost use Rattle.rules.specs.Grammar.{closed as closedBy};
 ghost use Rattle.rules.specs.Form.{Nothing, form};
 ghost use Rattle.grammar.specs.Tokens.{kindOf, toksAt, tells};
 ghost use Rattle.grammar.specs.Kinds.{numberOf, kindNumber, tableOf};
-ghost use Rattle.grammar.specs.Operands.{Operand};
+ghost use Rattle.grammar.specs.Operands.{Operand, Tells, subscribed};
 
 // What reading gives: well formed up to a place; ill-formed, or too deep, from a place on.
 pub enum Formed {
@@ -120,5 +122,147 @@ fn decimal(code: &[u8], at: usize) -> Formed
             return Formed::Broken(at);
         }
         here = here + 1;
+    }
+}
+
+// Where the next operand stands, if the byte `a` or `b` comes first; else 0.
+fn after_either(code: &[u8], so_far: Formed, a: u8, b: u8) -> usize
+    requires { ⌜ (0 < a) × (0 < b) ⌝ }
+    ensures { λ r. ⌜ Operand (λ x. member (plain x) (a ∷ b ∷ [])) 1 (now (code .entry)) «so_far» r ⌝ }
+{
+    let next = after_byte(code, so_far, a);
+    if next != 0 {
+        return next;
+    }
+    after_byte(code, so_far, b)
+}
+
+// Whether a reference of this kind may stand here, with no subscript where it is bare.
+fn takes(table: u8, kind: u8, bare: bool) -> bool
+    ensures { λ r. ⌜ ((k : Kind) → kind ≡ numberOf k → r ≡ tableOf table k bare) ⌝ }
+{
+    if table == 0 {
+        return (kind == 0) | (kind == 1) | (kind == 3) | (kind == 6) | ((kind == 5) & !bare);
+    }
+    if table == 1 {
+        return (kind == 0) | (kind == 3) | (kind == 6) | (kind == 7) | ((kind == 5) & !bare);
+    }
+    if table == 2 {
+        return (kind == 0) | (kind == 5);
+    }
+    if table == 3 {
+        return (kind == 0) | ((kind == 5) & !bare);
+    }
+    (kind < 4) | (kind == 6) | (kind == 7) | ((kind == 5) & !bare)
+}
+
+// What was read, where it may stand here; else the term at `here` is ill-formed.
+fn taken(fits: bool, here: usize, so_far: Formed) -> Formed
+    ensures { λ r. ⌜ ((from : ℕ → List (Lex Kind)) → tells from r ≡ then (tells from «so_far») (λ v x. choose fits (got tt x) (broken (from here)))) ⌝ }
+{
+    match so_far {
+        Formed::At(at) => {
+            if fits {
+                Formed::At(at)
+            } else {
+                Formed::Broken(here)
+            }
+        }
+        Formed::Broken(at) => Formed::Broken(at),
+        Formed::Deep(at) => Formed::Deep(at),
+    }
+}
+
+// What stands behind an opening parenthesis, where `nest` more may be opened.
+fn inner(kinds: &[u8], code: &[u8], at: usize, nest: usize) -> Formed
+    ensures { λ r. ⌜ Tells (deeper form nest) (now (kinds .entry)) (now (code .entry)) at r ⌝ }
+{
+    if nest == 0 {
+        Formed::Deep(at)
+    } else {
+        arithmetic(kinds, code, at, nest - 1)
+    }
+}
+
+// The subscripts of a reference of this kind, from their opening parenthesis on.
+fn subscripts(kinds: &[u8], code: &[u8], at: usize, nest: usize, kind: u8) -> Formed
+    requires { ⌜ at < length (now code) ⌝ }
+    ensures { λ r. ⌜ ((k : Kind) → kind ≡ numberOf k → Tells (subscribed (deeper form nest) k) (now (kinds .entry)) (now (code .entry)) at r) ⌝ }
+{
+    if kind == 0 {
+        return closed(code, inner(kinds, code, at + 1, nest));
+    }
+    if kind == 5 {
+        let first = inner(kinds, code, at + 1, nest);
+        let next = after_byte(code, first, 44);
+        if next == 0 {
+            return closed(code, first);
+        }
+        return closed(code, inner(kinds, code, next, nest));
+    }
+    Formed::Broken(at)
+}
+
+// A reference that the table takes, as the term that starts at `here`.
+fn referred(kinds: &[u8], code: &[u8], at: usize, nest: usize, here: usize, table: u8) -> Formed
+    ensures { λ r. ⌜ Tells (referred form (deeper form nest) (tableOf table) (λ r. some tt) (toksAt (now (kinds .entry)) (now (code .entry)) here)) (now (kinds .entry)) (now (code .entry)) at r ⌝ }
+{
+    let kind = kind_at(kinds, code, at);
+    if kind == 255 {
+        return Formed::Broken(at);
+    }
+    if text_at(code, at + 1) == 40 {
+        return taken(
+            takes(table, kind, false),
+            here,
+            subscripts(kinds, code, at + 1, nest, kind),
+        );
+    }
+    taken(takes(table, kind, true), here, Formed::At(at + 1))
+}
+
+fn term(kinds: &[u8], code: &[u8], at: usize, nest: usize) -> Formed
+    ensures { λ r. ⌜ Tells (term form (deeper form nest)) (now (kinds .entry)) (now (code .entry)) at r ⌝ }
+{
+    let c = text_at(code, at);
+    if c == 40 {
+        return closed(code, inner(kinds, code, at + 1, nest));
+    }
+    if chars::digit(c) {
+        return decimal(code, at);
+    }
+    if attribute_at(code, 75, at) {
+        return referred(kinds, code, at + 2, nest, at, 1);
+    }
+    if attribute_at(code, 78, at) {
+        return referred(kinds, code, at + 2, nest, at, 2);
+    }
+    referred(kinds, code, at, nest, at, 0)
+}
+
+fn product(kinds: &[u8], code: &[u8], at: usize, nest: usize) -> Formed
+    ensures { λ r. ⌜ Tells (product form (deeper form nest)) (now (kinds .entry)) (now (code .entry)) at r ⌝ }
+{
+    let mut so_far = term(kinds, code, at, nest);
+    loop {
+        let next = after_either(code, so_far, 42, 47);
+        if next == 0 {
+            return so_far;
+        }
+        so_far = term(kinds, code, next, nest);
+    }
+}
+
+// An arithmetic expression in which `nest` pairs of parentheses may be open at once.
+pub fn arithmetic(kinds: &[u8], code: &[u8], at: usize, nest: usize) -> Formed
+    ensures { λ r. ⌜ Tells (arithmetic form nest) (now (kinds .entry)) (now (code .entry)) at r ⌝ }
+{
+    let mut so_far = product(kinds, code, at, nest);
+    loop {
+        let next = after_either(code, so_far, 43, 45);
+        if next == 0 {
+            return so_far;
+        }
+        so_far = product(kinds, code, next, nest);
     }
 }
