@@ -5,3 +5,4 @@ pub mod Numbers
 pub mod While
 pub mod Chains
 pub mod Rules
+pub mod Texts

@@ -2,8 +2,8 @@
 use Prim.Native.Nat.{ℕ, zero, suc, _+_, _-_, _≤_, _<_}
 use native.Mathlib.Omega.{arith}
 use native.Mathlib.Numerals.{add-one}
-use mathlib.Core.Path.{_≡_, refl, ap, sym, _∙_}
-use mathlib.Core.Bool.{Bool, true, false, true≢false}
+use mathlib.Core.Path.{_≡_, refl, ap, sym, _∙_, subst}
+use mathlib.Core.Bool.{Bool, true, false, not, true≢false}
 use mathlib.Core.List.{List, [], _∷_, map}
 use lib.Dec.{eqb, ltb}
 use lib.ListN.{length, drop, getD, List·getD-eq-default, drop-of-length-le}
@@ -40,6 +40,10 @@ module _ (kinds code : Bytes) where
   toks-step : (at : ℕ) → at < length code → toksAt kinds code at ≡ lexOf kinds (getD code at 0) ∷ toksAt kinds code (at + 1)
   unfolding toksAt
   toks-step at h = rw (add-one at, drop-cons code at 0 h)
+
+  pub more-is : (at : ℕ) → ltb at (length code) ≡ not (isEmpty (toksAt kinds code at))
+  unfolding isEmpty
+  more-is at = by (ltb at (length code)) (λ h. h ∙ sym (ap (λ x. not (isEmpty x)) (toks-step at (ltb-true _ _ h)))) (λ h. h ∙ sym (ap (λ x. not (isEmpty x)) (toks-end at (ltb-false _ _ h))))
 
   -- a place with something at it
   pub within : (at : ℕ) {y : Lex Kind} {x : List (Lex Kind)} → toksAt kinds code at ≡ y ∷ x → at < length code
@@ -151,6 +155,31 @@ module _ (kinds code : Bytes) where
           let o : b ≡ 225 → ⊥ = λ e. omega arith in
           let p : b ≡ 226 → ⊥ = λ e. omega arith in
           rw (le-ltb b 127 a, ne-eqb b 127 m, le-ltb b 224 d, ne-eqb b 224 n, ne-eqb b 225 o, ne-eqb b 226 p)
+
+  -- what stands at a place, by its byte: a text byte or a mark, a variable symbol, an ampersand left over
+  module _ (P : List (Lex Kind) → Type 0) (at : ℕ) (inside : at < length code) where
+    abbrev Q : Lex Kind → Type 0
+    Q l = P (l ∷ toksAt kinds code (at + 1))
+
+    pub text-lex : getD code at 0 < 128 → ((c : ℕ) → Q (byte c)) → Q mark → P (toksAt kinds code at)
+    unfolding lexOf
+    text-lex h p q = subst P (sym (toks-step at inside)) (either Q (ltb (getD code at 0) 127) (λ e. p _)
+        λ e. either Q (eqb (getD code at 0) 127) (λ f. q) λ f. let over = ltb-false (getD code at 0) 127 e in let other = eqb-false (getD code at 0) 127 f in absurd (omega arith))
+
+    pub ref-lex : 128 ≤ getD code at 0 → getD code at 0 ≤ 226 → ((k : Kind) → Q (ref k)) → P (toksAt kinds code at)
+    unfolding lexOf
+    ref-lex h k p = subst P (sym (toks-step at inside)) (either Q (ltb (getD code at 0) 127) (λ e. let less = ltb-true (getD code at 0) 127 e in absurd (omega arith))
+        λ e. either Q (eqb (getD code at 0) 127) (λ f. let same = eqb-true (getD code at 0) 127 f in absurd (omega arith))
+        λ f. either Q (ltb (getD code at 0) 224) (λ g. p _) λ g. either Q (eqb (getD code at 0) 224) (λ i. p _) λ i. either Q (eqb (getD code at 0) 225) (λ j. p _)
+        λ j. either Q (eqb (getD code at 0) 226) (λ l. p _)
+        λ l. let a = ltb-false (getD code at 0) 224 g in let b = eqb-false (getD code at 0) 224 i in let d = eqb-false (getD code at 0) 225 j in let m = eqb-false (getD code at 0) 226 l in absurd (omega arith))
+
+    pub lone-lex : 226 < getD code at 0 → Q lone → P (toksAt kinds code at)
+    unfolding lexOf
+    lone-lex h p = subst P (sym (toks-step at inside)) (either Q (ltb (getD code at 0) 127) (λ e. let less = ltb-true (getD code at 0) 127 e in absurd (omega arith))
+        λ e. either Q (eqb (getD code at 0) 127) (λ f. let same = eqb-true (getD code at 0) 127 f in absurd (omega arith))
+        λ f. either Q (ltb (getD code at 0) 224) (λ g. let less = ltb-true (getD code at 0) 224 g in absurd (omega arith)) λ g. either Q (eqb (getD code at 0) 224) (λ i. let same = eqb-true (getD code at 0) 224 i in absurd (omega arith))
+        λ i. either Q (eqb (getD code at 0) 225) (λ j. let same = eqb-true (getD code at 0) 225 j in absurd (omega arith)) λ j. either Q (eqb (getD code at 0) 226) (λ l. let same = eqb-true (getD code at 0) 226 l in absurd (omega arith)) λ l. p)
 
   -- a byte of text that is not 0
   module _ (at c : ℕ) (read : c ≡ plain (toksAt kinds code at)) (some : 0 < c) where

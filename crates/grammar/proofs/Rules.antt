@@ -302,26 +302,26 @@ module _ (inner : List (Lex Kind) → Got Nothing Kind) (x : List (Lex Kind)) {c
 -- ---- the rules move forward
 
 -- at most so much is left
-abbrev Few : (A : Type 0) → ℕ → Got A Kind → Type 0
+abbrev pub Few : (A : Type 0) → ℕ → Got A Kind → Type 0
 Few A n r = left r ≤ n
 
 up : (n : ℕ) → n ≤ suc n
 up n = omega arith
 
-got-left : {A : Type 0} (v : A) (x : List (Lex Kind)) (n : ℕ) → length x < n → left (got v x) ≤ n
+pub got-left : {A : Type 0} (v : A) (x : List (Lex Kind)) (n : ℕ) → length x < n → left (got v x) ≤ n
 unfolding left
 got-left v x n h = h
 
-broken-left : (A : Type 0) (x : List (Lex Kind)) (n : ℕ) → left (broken {A = A} x) ≤ n
+pub broken-left : (A : Type 0) (x : List (Lex Kind)) (n : ℕ) → left (broken {A = A} x) ≤ n
 unfolding left broken
 broken-left A x n = omega arith
 
-left-closed : {A : Type 0} (v : A) (x : List (Lex Kind)) → left (closed v x) ≤ suc (length x)
+pub left-closed : {A : Type 0} (v : A) (x : List (Lex Kind)) → left (closed v x) ≤ suc (length x)
 unfolding closed rest
 left-closed v x = either (Few _ (suc (length x))) (eqb (plain x) closing) (λ e. let less = drop-less 1 x in got-left _ (drop 1 x) (suc (length x)) (omega arith)) (λ e. broken-left _ x _)
 
 module _ (inner : List (Lex Kind) → Got Nothing Kind) (forward : Forward inner) where
-  left-opened : {A : Type 0} (k : Nothing → List (Lex Kind) → Got A Kind) → ((v : Nothing) (y : List (Lex Kind)) → left (k v y) ≤ suc (length y)) → (x : List (Lex Kind)) → left (then (inner (rest x)) k) ≤ length x
+  pub left-opened : {A : Type 0} (k : Nothing → List (Lex Kind) → Got A Kind) → ((v : Nothing) (y : List (Lex Kind)) → left (k v y) ≤ suc (length y)) → (x : List (Lex Kind)) → left (then (inner (rest x)) k) ≤ length x
   unfolding rest
   left-opened k h x =
       let all = left-then (inner (rest x)) k h in

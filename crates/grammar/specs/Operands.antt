@@ -7,7 +7,7 @@ use lib.Dec.{eqb}
 use lib.ListN.{drop}
 use Rattle.text.specs.Bytes.{Bytes}
 use Rattle.rules.specs.Choice.{choose}
-use Rattle.rules.specs.Lexemes.{Lex, comma}
+use Rattle.rules.specs.Lexemes.{Lex, comma, period}
 use Rattle.rules.specs.Grammar.{Kind, parameter, symbol, syslist, sysndx, sysect, unknown, Got, got, refused, plain, rest, then, broken, closed}
 use Rattle.rules.specs.Form.{Nothing}
 use Rattle.grammar.specs.Tokens.{toksAt, tells}
@@ -25,6 +25,10 @@ subscribed inner syslist x = then (inner (rest x)) λ n y. choose (eqb (plain y)
 subscribed inner sysndx x = broken x
 subscribed inner sysect x = broken x
 subscribed inner unknown x = broken x
+
+-- the period that is removed after a reference in text
+unfoldable pub pastPeriod : Nothing → List (Lex Kind) → Got Nothing Kind
+pastPeriod v x = got tt (choose (eqb (plain x) period) (rest x) x)
 
 -- what was read is well formed, and the test holds of what follows
 unfoldable pub goesBy : (List (Lex Kind) → Bool) → Got Nothing Kind → Bool

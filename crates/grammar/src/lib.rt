@@ -1,20 +1,21 @@
 // Whether a field is well formed, over its lexeme bytes and the kinds of its slots.
 ghost use mathlib.Core.Path.{_≡_};
-ghost use mathlib.Core.Bool.{Bool};
+ghost use mathlib.Core.Bool.{Bool, not};
 ghost use mathlib.Core.List.{List, [], _∷_};
 ghost use Prim.Native.Nat.{ℕ, _+_, _<_};
 ghost use lib.Dec.{eqb};
 ghost use lib.ListN.{length, getD};
 ghost use mathlib.Core.Option.{some};
 ghost use Rattle.text.specs.Bytes.{Bytes, member};
+ghost use Rattle.rules.specs.Fields.{isEmpty};
 ghost use Rattle.rules.specs.Choice.{choose};
 ghost use Rattle.rules.specs.Lexemes.{Lex};
-ghost use Rattle.rules.specs.Grammar.{Kind, Got, got, plain, startsMark, isAttribute, then, broken, decimalNumber, deeper, referred, term, product, arithmetic};
+ghost use Rattle.rules.specs.Grammar.{Kind, Got, got, plain, startsMark, isAttribute, then, broken, decimalNumber, deeper, referred, term, product, arithmetic, piece, addPiece, textWithin};
 ghost use Rattle.rules.specs.Grammar.{closed as closedBy};
 ghost use Rattle.rules.specs.Form.{Nothing, form};
 ghost use Rattle.grammar.specs.Tokens.{kindOf, toksAt, tells};
 ghost use Rattle.grammar.specs.Kinds.{numberOf, kindNumber, tableOf};
-ghost use Rattle.grammar.specs.Operands.{Operand, Tells, subscribed};
+ghost use Rattle.grammar.specs.Operands.{Operand, Tells, subscribed, goesBy, pastPeriod};
 
 // What reading gives: well formed up to a place; ill-formed, or too deep, from a place on.
 pub enum Formed {
@@ -264,5 +265,64 @@ pub fn arithmetic(kinds: &[u8], code: &[u8], at: usize, nest: usize) -> Formed
             return so_far;
         }
         so_far = product(kinds, code, next, nest);
+    }
+}
+
+// The period that is removed after a reference in text.
+fn past_period(code: &[u8], so_far: Formed) -> Formed
+    ensures { λ r. ⌜ ((kinds : Bytes) → tells (toksAt kinds (now (code .entry))) r ≡ then (tells (toksAt kinds (now (code .entry))) «so_far») pastPeriod) ⌝ }
+{
+    let next = after_byte(code, so_far, 46);
+    if next == 0 { so_far } else { Formed::At(next) }
+}
+
+// One piece of a text.
+fn piece(kinds: &[u8], code: &[u8], at: usize, nest: usize) -> Formed
+    ensures { λ r. ⌜ Tells (piece form (deeper form nest)) (now (kinds .entry)) (now (code .entry)) at r ⌝ }
+{
+    if code.len() <= at {
+        return Formed::Broken(at);
+    }
+    let b = code[at];
+    if b < 128 {
+        return Formed::At(at + 1);
+    }
+    if 226 < b {
+        return Formed::Broken(at);
+    }
+    past_period(code, referred(kinds, code, at, nest, at, 4))
+}
+
+fn add_piece(kinds: &[u8], code: &[u8], so_far: Formed, nest: usize) -> Formed
+    ensures { λ r. ⌜ tells (toksAt (now (kinds .entry)) (now (code .entry))) r ≡ addPiece form (deeper form nest) (tells (toksAt (now (kinds .entry)) (now (code .entry))) «so_far») ⌝ }
+{
+    match so_far {
+        Formed::At(at) => piece(kinds, code, at, nest),
+        Formed::Broken(at) => Formed::Broken(at),
+        Formed::Deep(at) => Formed::Deep(at),
+    }
+}
+
+// Whether more text follows.
+fn more(code: &[u8], so_far: Formed) -> bool
+    ensures { λ r. ⌜ ((kinds : Bytes) → r ≡ goesBy (λ x. not (isEmpty x)) (tells (toksAt kinds (now (code .entry))) «so_far»)) ⌝ }
+{
+    match so_far {
+        Formed::At(at) => at < code.len(),
+        Formed::Broken(_) => false,
+        Formed::Deep(_) => false,
+    }
+}
+
+// A text to its end.
+pub fn text(kinds: &[u8], code: &[u8], at: usize, nest: usize) -> Formed
+    ensures { λ r. ⌜ Tells (textWithin form nest) (now (kinds .entry)) (now (code .entry)) at r ⌝ }
+{
+    let mut so_far = Formed::At(at);
+    loop {
+        if !more(code, so_far) {
+            return so_far;
+        }
+        so_far = add_piece(kinds, code, so_far, nest);
     }
 }
