@@ -6,3 +6,4 @@ pub mod While
 pub mod Chains
 pub mod Rules
 pub mod Texts
+pub mod Quotes

@@ -5,10 +5,10 @@ use native.Mathlib.Numerals.{add-one}
 use mathlib.Core.Path.{_≡_, refl, ap, sym, _∙_, subst}
 use mathlib.Core.Bool.{Bool, true, false, not, true≢false}
 use mathlib.Core.List.{List, [], _∷_, map}
-use lib.Dec.{eqb, ltb}
+use lib.Dec.{eqb, leb, ltb}
 use lib.ListN.{length, drop, getD, List·getD-eq-default, drop-of-length-le}
 use lib.Seq.{drop-cons, drop-drop}
-use borrow.Author.Tests.{ltb-true, ltb-false, lt-ltb, le-ltb, eqb-true, eqb-false, ne-eqb}
+use borrow.Author.Tests.{leb-true, leb-false, ltb-true, ltb-false, lt-ltb, le-ltb, eqb-true, eqb-false, ne-eqb}
 use Rattle.text.specs.Bytes.{Bytes}
 use Rattle.rules.specs.Choice.{choose}
 use Rattle.rules.specs.Lexemes.{Lex, byte, mark, ref, lone, byteOf}
@@ -44,6 +44,10 @@ module _ (kinds code : Bytes) where
   pub more-is : (at : ℕ) → ltb at (length code) ≡ not (isEmpty (toksAt kinds code at))
   unfolding isEmpty
   more-is at = by (ltb at (length code)) (λ h. h ∙ sym (ap (λ x. not (isEmpty x)) (toks-step at (ltb-true _ _ h)))) (λ h. h ∙ sym (ap (λ x. not (isEmpty x)) (toks-end at (ltb-false _ _ h))))
+
+  pub empty-is : (at : ℕ) → leb (length code) at ≡ isEmpty (toksAt kinds code at)
+  unfolding isEmpty
+  empty-is at = by (leb (length code) at) (λ h. h ∙ sym (ap isEmpty (toks-end at (leb-true _ _ h)))) (λ h. h ∙ sym (ap isEmpty (toks-step at (leb-false _ _ h))))
 
   -- a place with something at it
   pub within : (at : ℕ) {y : Lex Kind} {x : List (Lex Kind)} → toksAt kinds code at ≡ y ∷ x → at < length code

@@ -305,7 +305,7 @@ module _ (inner : List (Lex Kind) → Got Nothing Kind) (x : List (Lex Kind)) {c
 abbrev pub Few : (A : Type 0) → ℕ → Got A Kind → Type 0
 Few A n r = left r ≤ n
 
-up : (n : ℕ) → n ≤ suc n
+pub up : (n : ℕ) → n ≤ suc n
 up n = omega arith
 
 pub got-left : {A : Type 0} (v : A) (x : List (Lex Kind)) (n : ℕ) → length x < n → left (got v x) ≤ n

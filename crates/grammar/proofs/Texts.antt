@@ -117,7 +117,7 @@ module _ (inner : List (Lex Kind) → Got Nothing Kind) where
   unfolding piece form tableOf choose pastPeriod
   piece-ref k x = refl
 
-  add-got : (x : List (Lex Kind)) → piece form inner x ≡ addPiece form inner (got tt x)
+  pub add-got : (x : List (Lex Kind)) → piece form inner x ≡ addPiece form inner (got tt x)
   unfolding addPiece form
   add-got x = sym (then-same (piece form inner x))
 

@@ -1,15 +1,17 @@
 -- What functions answer: what a rule gives, and where the next operand of a chain stands, as a number: 0 where the chain ends.
 use Prim.Native.Nat.{ℕ}
 use mathlib.Core.Path.{_≡_}
-use mathlib.Core.Bool.{Bool, true, false}
+use mathlib.Core.Bool.{Bool, true, false, _||_, not}
+use mathlib.Core.Option.{some}
 use mathlib.Core.List.{List}
 use lib.Dec.{eqb}
-use lib.ListN.{drop}
+use lib.ListN.{length, drop}
 use Rattle.text.specs.Bytes.{Bytes}
-use Rattle.rules.specs.Choice.{choose}
-use Rattle.rules.specs.Lexemes.{Lex, comma, period}
-use Rattle.rules.specs.Grammar.{Kind, parameter, symbol, syslist, sysndx, sysect, unknown, Got, got, refused, plain, rest, then, broken, closed}
-use Rattle.rules.specs.Form.{Nothing}
+use Rattle.rules.specs.Choice.{choose, while}
+use Rattle.rules.specs.Fields.{isEmpty}
+use Rattle.rules.specs.Lexemes.{Lex, comma, period, apostrophe}
+use Rattle.rules.specs.Grammar.{Kind, parameter, symbol, syslist, sysndx, sysect, unknown, Got, got, refused, plain, rest, then, broken, closed, chain, isDoubled, goesOnQuoted, addQuoted, string}
+use Rattle.rules.specs.Form.{Nothing, form}
 use Rattle.grammar.specs.Tokens.{toksAt, tells}
 use Rattle.grammar.specs.declared.Formed.{Formed}
 
@@ -29,6 +31,20 @@ subscribed inner unknown x = broken x
 -- the period that is removed after a reference in text
 unfoldable pub pastPeriod : Nothing → List (Lex Kind) → Got Nothing Kind
 pastPeriod v x = got tt (choose (eqb (plain x) period) (rest x) x)
+
+-- what stands between quotes goes on, is read up to the quote that closes it, and that quote
+unfoldable pub quoteGoes : (List (Lex Kind) → Got Nothing Kind) → List (Lex Kind) → Bool
+quoteGoes inner x = isDoubled form inner x || not (isEmpty x || eqb (plain x) apostrophe)
+
+unfoldable pub quotedRun : (List (Lex Kind) → Got Nothing Kind) → List (Lex Kind) → Got Nothing Kind
+quotedRun inner x = while (goesOnQuoted form inner) (addQuoted form inner) (length x) (got tt x)
+
+unfoldable pub unquotedBy : Nothing → List (Lex Kind) → Got Nothing Kind
+unquotedBy v x = choose (eqb (plain x) apostrophe) (got tt (rest x)) (broken x)
+
+-- strings joined by periods
+unfoldable pub stringsBy : (List (Lex Kind) → Got Nothing Kind) → List (Lex Kind) → Got Nothing Kind
+stringsBy inner x = chain (λ y. eqb (plain y) period) rest (string form inner) (λ y s t. some tt) x
 
 -- what was read is well formed, and the test holds of what follows
 unfoldable pub goesBy : (List (Lex Kind) → Bool) → Got Nothing Kind → Bool

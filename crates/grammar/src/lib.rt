@@ -10,12 +10,12 @@ ghost use Rattle.text.specs.Bytes.{Bytes, member};
 ghost use Rattle.rules.specs.Fields.{isEmpty};
 ghost use Rattle.rules.specs.Choice.{choose};
 ghost use Rattle.rules.specs.Lexemes.{Lex};
-ghost use Rattle.rules.specs.Grammar.{Kind, Got, got, plain, startsMark, isAttribute, then, broken, decimalNumber, deeper, referred, term, product, arithmetic, piece, addPiece, textWithin};
+ghost use Rattle.rules.specs.Grammar.{Kind, Got, got, plain, startsMark, isAttribute, then, broken, decimalNumber, deeper, referred, term, product, arithmetic, piece, addPiece, textWithin, isDoubled, addQuoted, substringed, string, stringWithin};
 ghost use Rattle.rules.specs.Grammar.{closed as closedBy};
 ghost use Rattle.rules.specs.Form.{Nothing, form};
 ghost use Rattle.grammar.specs.Tokens.{kindOf, toksAt, tells};
 ghost use Rattle.grammar.specs.Kinds.{numberOf, kindNumber, tableOf};
-ghost use Rattle.grammar.specs.Operands.{Operand, Tells, subscribed, goesBy, pastPeriod};
+ghost use Rattle.grammar.specs.Operands.{Operand, Tells, subscribed, goesBy, pastPeriod, quoteGoes, quotedRun, unquotedBy, stringsBy};
 
 // What reading gives: well formed up to a place; ill-formed, or too deep, from a place on.
 pub enum Formed {
@@ -325,4 +325,137 @@ pub fn text(kinds: &[u8], code: &[u8], at: usize, nest: usize) -> Formed
         }
         so_far = add_piece(kinds, code, so_far, nest);
     }
+}
+
+// Whether two apostrophes stand at a place.
+fn doubled(code: &[u8], at: usize) -> bool
+    ensures { λ r. ⌜ ((kinds : Bytes) (inner : List (Lex Kind) → Got Nothing Kind) → r ≡ isDoubled form inner (toksAt kinds (now (code .entry)) at)) ⌝ }
+{
+    if text_at(code, at) != 39 {
+        return false;
+    }
+    text_at(code, at + 1) == 39
+}
+
+// Whether what stands between quotes goes on.
+fn more_quoted(code: &[u8], so_far: Formed) -> bool
+    ensures { λ r. ⌜ ((kinds : Bytes) (inner : List (Lex Kind) → Got Nothing Kind) → r ≡ goesBy (quoteGoes inner) (tells (toksAt kinds (now (code .entry))) «so_far»)) ⌝ }
+{
+    match so_far {
+        Formed::At(at) => doubled(code, at) | !((code.len() <= at) | (text_at(code, at) == 39)),
+        Formed::Broken(_) => false,
+        Formed::Deep(_) => false,
+    }
+}
+
+fn add_quoted(kinds: &[u8], code: &[u8], so_far: Formed, nest: usize) -> Formed
+    ensures { λ r. ⌜ tells (toksAt (now (kinds .entry)) (now (code .entry))) r ≡ addQuoted form (deeper form nest) (tells (toksAt (now (kinds .entry)) (now (code .entry))) «so_far») ⌝ }
+{
+    match so_far {
+        Formed::At(at) => {
+            if doubled(code, at) {
+                Formed::At(at + 2)
+            } else {
+                piece(kinds, code, at, nest)
+            }
+        }
+        Formed::Broken(at) => Formed::Broken(at),
+        Formed::Deep(at) => Formed::Deep(at),
+    }
+}
+
+// What stands between quotes, up to the quote that closes it.
+fn quoted(kinds: &[u8], code: &[u8], at: usize, nest: usize) -> Formed
+    ensures { λ r. ⌜ Tells (quotedRun (deeper form nest)) (now (kinds .entry)) (now (code .entry)) at r ⌝ }
+{
+    let mut so_far = Formed::At(at);
+    loop {
+        if !more_quoted(code, so_far) {
+            return so_far;
+        }
+        so_far = add_quoted(kinds, code, so_far, nest);
+    }
+}
+
+// The quote that closes.
+fn unquoted(code: &[u8], so_far: Formed) -> Formed
+    ensures { λ r. ⌜ ((kinds : Bytes) → tells (toksAt kinds (now (code .entry))) r ≡ then (tells (toksAt kinds (now (code .entry))) «so_far») unquotedBy) ⌝ }
+{
+    match so_far {
+        Formed::At(at) => {
+            if text_at(code, at) == 39 {
+                Formed::At(at + 1)
+            } else {
+                Formed::Broken(at)
+            }
+        }
+        Formed::Broken(at) => Formed::Broken(at),
+        Formed::Deep(at) => Formed::Deep(at),
+    }
+}
+
+// What was read, and then something that is ill-formed.
+fn ill_formed(so_far: Formed) -> Formed
+    ensures { λ r. ⌜ ((from : ℕ → List (Lex Kind)) → tells from r ≡ then (tells from «so_far») (λ v x. broken x)) ⌝ }
+{
+    match so_far {
+        Formed::At(at) => Formed::Broken(at),
+        Formed::Broken(at) => Formed::Broken(at),
+        Formed::Deep(at) => Formed::Deep(at),
+    }
+}
+
+// The start and the count behind a string.
+fn substring(kinds: &[u8], code: &[u8], so_far: Formed, nest: usize) -> Formed
+    ensures { λ r. ⌜ ((here : List (Lex Kind)) → tells (toksAt (now (kinds .entry)) (now (code .entry))) r ≡ then (tells (toksAt (now (kinds .entry)) (now (code .entry))) «so_far») (substringed form (deeper form nest) here)) ⌝ }
+{
+    let first = after_byte(code, so_far, 40);
+    if first == 0 {
+        return so_far;
+    }
+    let start = inner(kinds, code, first, nest);
+    let second = after_byte(code, start, 44);
+    if second == 0 {
+        return ill_formed(start);
+    }
+    closed(code, inner(kinds, code, second, nest))
+}
+
+// A quoted string.
+fn string(kinds: &[u8], code: &[u8], at: usize, nest: usize) -> Formed
+    ensures { λ r. ⌜ Tells (string form (deeper form nest)) (now (kinds .entry)) (now (code .entry)) at r ⌝ }
+{
+    if text_at(code, at) != 39 {
+        return Formed::Broken(at);
+    }
+    substring(
+        kinds,
+        code,
+        unquoted(code, quoted(kinds, code, at + 1, nest)),
+        nest,
+    )
+}
+
+// Strings joined by periods.
+fn strings(kinds: &[u8], code: &[u8], at: usize, nest: usize) -> Formed
+    ensures { λ r. ⌜ Tells (stringsBy (deeper form nest)) (now (kinds .entry)) (now (code .entry)) at r ⌝ }
+{
+    let mut so_far = string(kinds, code, at, nest);
+    loop {
+        let next = after_byte(code, so_far, 46);
+        if next == 0 {
+            return so_far;
+        }
+        so_far = string(kinds, code, next, nest);
+    }
+}
+
+// A string expression.
+pub fn characters(kinds: &[u8], code: &[u8], at: usize, nest: usize) -> Formed
+    ensures { λ r. ⌜ Tells (stringWithin form nest) (now (kinds .entry)) (now (code .entry)) at r ⌝ }
+{
+    if attribute_at(code, 84, at) {
+        return referred(kinds, code, at + 2, nest, at, 3);
+    }
+    strings(kinds, code, at, nest)
 }
