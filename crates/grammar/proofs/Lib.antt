@@ -7,3 +7,4 @@ pub mod Chains
 pub mod Rules
 pub mod Texts
 pub mod Quotes
+pub mod Spaces

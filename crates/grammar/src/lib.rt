@@ -10,7 +10,7 @@ ghost use Rattle.text.specs.Bytes.{Bytes, member};
 ghost use Rattle.rules.specs.Fields.{isEmpty};
 ghost use Rattle.rules.specs.Choice.{choose};
 ghost use Rattle.rules.specs.Lexemes.{Lex};
-ghost use Rattle.rules.specs.Grammar.{Kind, Got, got, plain, startsMark, isAttribute, then, broken, decimalNumber, deeper, referred, term, product, arithmetic, piece, addPiece, textWithin, isDoubled, addQuoted, substringed, string, stringWithin};
+ghost use Rattle.rules.specs.Grammar.{Kind, Got, got, plain, startsMark, isAttribute, then, broken, decimalNumber, deeper, referred, term, product, arithmetic, piece, addPiece, textWithin, isDoubled, addQuoted, substringed, string, stringWithin, pastSpaces};
 ghost use Rattle.rules.specs.Grammar.{closed as closedBy};
 ghost use Rattle.rules.specs.Form.{Nothing, form};
 ghost use Rattle.grammar.specs.Tokens.{kindOf, toksAt, tells};
@@ -458,4 +458,17 @@ pub fn characters(kinds: &[u8], code: &[u8], at: usize, nest: usize) -> Formed
         return referred(kinds, code, at + 2, nest, at, 3);
     }
     strings(kinds, code, at, nest)
+}
+
+// The place behind the spaces that stand at a place.
+pub fn past_spaces(code: &[u8], at: usize) -> usize
+    ensures { λ r. ⌜ ((kinds : Bytes) → toksAt kinds (now (code .entry)) r ≡ pastSpaces (toksAt kinds (now (code .entry)) at)) ⌝ }
+{
+    let mut here = at;
+    loop {
+        if text_at(code, here) != 32 {
+            return here;
+        }
+        here = here + 1;
+    }
 }
