@@ -1,0 +1,3 @@
+pub mod Tokens
+pub mod Kinds
+pub mod Operands
