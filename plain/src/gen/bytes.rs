@@ -71,6 +71,18 @@ fn mutate(rng: &mut Random, text: &mut Vec<u8>) {
     }
 }
 
+/// A case disturbed one to `most` times, three times in four in its library.
+fn mutated(rng: &mut Random, mut case: Case, most: usize) -> Case {
+    for _ in 0..rng.between(1, most) {
+        if rng.chance(75) {
+            mutate(rng, &mut case.library)
+        } else {
+            mutate(rng, &mut case.program)
+        }
+    }
+    case
+}
+
 const SMALL: &str = "
      MACRO
 &N       M     &P,&K=1
@@ -103,29 +115,15 @@ pub fn case(rng: &mut Random) -> Case {
             case_of(SMALL.trim_start_matches('\n').as_bytes().to_vec(), program)
         }
         5..=10 => {
-            let mut made = case_of(
+            let made = case_of(
                 SMALL.trim_start_matches('\n').as_bytes().to_vec(),
                 b"A        M     X,K=2\n         NOP\n         M     (A,B),C\n".to_vec(),
             );
-            for _ in 0..rng.between(1, 3) {
-                if rng.chance(75) {
-                    mutate(rng, &mut made.library)
-                } else {
-                    mutate(rng, &mut made.program)
-                }
-            }
-            made
+            mutated(rng, made, 3)
         }
         _ => {
-            let mut made = rich::case(rng);
-            for _ in 0..rng.between(1, 4) {
-                if rng.chance(75) {
-                    mutate(rng, &mut made.library)
-                } else {
-                    mutate(rng, &mut made.program)
-                }
-            }
-            made
+            let made = rich::case(rng);
+            mutated(rng, made, 4)
         }
     }
 }
