@@ -31,7 +31,10 @@ indexCode = 225
 abbrev pub sectionCode : ℕ
 sectionCode = 226
 
--- what a deck never holds is written as a byte that no lexeme has
+-- what a deck never holds is written as bytes that no lexeme has: a variable symbol that is not known, an ampersand that starts none
+abbrev pub unknownCode : ℕ
+unknownCode = 254
+
 abbrev pub noCode : ℕ
 noCode = 255
 
@@ -41,7 +44,7 @@ slotCode (shared g) = sharedCode + g
 slotCode list = listCode
 slotCode index = indexCode
 slotCode section = sectionCode
-slotCode nowhere = noCode
+slotCode nowhere = unknownCode
 
 unfoldable pub lexCode : Lex Slot → ℕ
 lexCode (char c) = c

@@ -15,7 +15,7 @@ use Rattle.rules.specs.ByLines.{ownNames}
 use Rattle.rules.proofs.Symbols.{length-firsts}
 use Rattle.rules.proofs.Choices.{chosen, passed-over, either}
 use Rattle.deck.specs.Slots.{Slot, own, shared as globally, list, index, section, nowhere, systemSlot, resolved}
-use Rattle.deck.specs.Coders.{ownCode, sharedCode, listCode, indexCode, sectionCode, noCode, slotCode}
+use Rattle.deck.specs.Coders.{ownCode, sharedCode, listCode, indexCode, sectionCode, unknownCode, noCode, slotCode}
 use Rattle.names.specs.Names.{namesIn, slotIn, slotByte}
 use Rattle.names.proofs.Rows.{names-length}
 
@@ -42,7 +42,7 @@ module _ (n : Bytes) where
       unfolding systemSlot slotCode
       is-section e = slot-byte-is {s = section} refl (passed-over _ _ a ∙ (passed-over _ _ b ∙ chosen _ _ e))
 
-      pub is-none : same n (bytes "SYSECT") ≡ false → noCode ≡ systemByte n
+      pub is-none : same n (bytes "SYSECT") ≡ false → unknownCode ≡ systemByte n
       unfolding systemSlot slotCode
       is-none e = slot-byte-is {s = nowhere} refl (passed-over _ _ a ∙ (passed-over _ _ b ∙ passed-over _ _ e))
 

@@ -54,7 +54,7 @@ fn code(first: usize, place: usize) -> u8
     255
 }
 
-// The byte of a system symbol; 255 for any other name.
+// The byte of a system symbol; 254 for any other name, which is not known.
 fn system_byte(name: &[u8]) -> u8
     ensures { λ r. ⌜ r ≡ min (slotCode (systemSlot (now (name .entry)))) noCode ⌝ }
 {
@@ -67,7 +67,7 @@ fn system_byte(name: &[u8]) -> u8
     if lent::equal(name, b"SYSECT") {
         return 226;
     }
-    255
+    254
 }
 
 // The byte that a variable symbol is in a deck: by a macro's own names, the names of its GBL statements, and the library's globals.
