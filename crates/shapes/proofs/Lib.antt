@@ -1,0 +1,6 @@
+-- What a shape says.
+pub mod Plain
+pub mod Kept
+pub mod Parts
+pub mod Texts
+pub mod Spelt

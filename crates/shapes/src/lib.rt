@@ -1,0 +1,129 @@
+// A statement in codes: what the line does, and which codes it keeps.
+ghost use mathlib.Core.Path.{_≡_};
+ghost use mathlib.Core.Bool.{Bool};
+ghost use Prim.Native.Nat.{_+_, _-_, _≤_, min};
+ghost use lib.Dec.{eqb};
+ghost use lib.ListN.{length, getD};
+ghost use Rattle.rules.specs.Choice.{choose};
+ghost use Rattle.rules.specs.Statement.{statements, model};
+ghost use Rattle.deck.specs.Coders.{branchesIfCode};
+ghost use Rattle.shapes.specs.Shapes.{isPlainCode, keepsNone, keepsOperand, branching, branchingIf, modelling, shapeOf};
+
+// Where the codes of a statement's name, operation and operand end, one behind another.
+pub struct Codes {
+    pub name: usize,
+    pub operation: usize,
+    pub operand: usize,
+}
+
+// What a line does, and which codes it keeps: the name's up to `name`, the operation's from `operation` to `gap`, the operand's from `operand` to `rest`, and a
+// branch target's from there to `end`.
+pub struct Shape {
+    pub does: u8,
+    pub name: usize,
+    pub operation: usize,
+    pub gap: usize,
+    pub operand: usize,
+    pub rest: usize,
+    pub end: usize,
+}
+
+// Whether no code is a variable symbol or an ampersand left over.
+fn is_plain(code: &[u8]) -> bool
+    ensures { λ r. ⌜ r ≡ isPlainCode (now (code .entry)) ⌝ }
+{
+    let mut i = 0;
+    while i < code.len() {
+        if 127 < code[i] {
+            return false;
+        }
+        i += 1;
+    }
+    true
+}
+
+// A line that keeps none of its fields.
+fn keeps_none(does: u8, codes: Codes) -> Shape
+    ensures { λ r. ⌜ r ≡ keepsNone does codes ⌝ }
+{
+    Shape {
+        does,
+        name: 0,
+        operation: codes.name,
+        gap: codes.name,
+        operand: codes.operation,
+        rest: codes.operation,
+        end: codes.operation,
+    }
+}
+
+// A line that keeps its operand, and its name up to a place.
+fn keeps_operand(does: u8, name: usize, codes: Codes) -> Shape
+    ensures { λ r. ⌜ r ≡ keepsOperand does name codes ⌝ }
+{
+    Shape {
+        does,
+        name,
+        operation: codes.name,
+        gap: codes.name,
+        operand: codes.operation,
+        rest: codes.operand,
+        end: codes.operand,
+    }
+}
+
+// AGO: the target is all of its operand.
+fn branching(codes: Codes) -> Shape
+    ensures { λ r. ⌜ r ≡ branching codes ⌝ }
+{
+    Shape {
+        does: 6,
+        name: 0,
+        operation: codes.name,
+        gap: codes.name,
+        operand: codes.operation,
+        rest: codes.operation,
+        end: codes.operand,
+    }
+}
+
+// The lesser of two numbers.
+fn lesser(a: usize, b: usize) -> usize
+    ensures { λ r. ⌜ r ≡ min a b ⌝ }
+{
+    if a < b { a } else { b }
+}
+
+// AIF: the target is what stands behind its condition, where it has one.
+fn branching_if(condition: usize, codes: Codes) -> Shape
+    requires { ⌜ codes .operation ≤ codes .operand ⌝ }
+    ensures { λ r. ⌜ r ≡ branchingIf condition codes ⌝ }
+{
+    let rest = codes.operation + lesser(condition, codes.operand - codes.operation);
+    let end = if condition == 0 { rest } else { codes.operand };
+    Shape {
+        does: 5,
+        name: 0,
+        operation: codes.name,
+        gap: codes.name,
+        operand: codes.operation,
+        rest,
+        end,
+    }
+}
+
+// A model statement that is laid out: a sequence symbol as its name is left out.
+fn modelling(label: bool, codes: Codes) -> Shape
+    ensures { λ r. ⌜ r ≡ modelling label codes ⌝ }
+{
+    let name = if label { 0 } else { codes.name };
+    Shape {
+        does: 4,
+        name,
+        operation: codes.name,
+        gap: codes.operation,
+        operand: codes.operation,
+        rest: codes.operand,
+        end: codes.operand,
+    }
+}
