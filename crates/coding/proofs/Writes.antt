@@ -1,41 +1,16 @@
--- Writing over a lent buffer piece by piece: a loop's invariant says what finishing from here gives, so that each turn is one law. Assumes nothing.
-use Prim.Native.Nat.{ℕ, suc, _+_, _-_, _≤_, _<_}
-use native.Mathlib.Nat.{add-zero, add-suc, suc-add}
-use native.Mathlib.Omega.{arith}
+-- Writing a field over a lent buffer piece by piece: a loop's invariant says what finishing from here gives, so that each turn is one law. Assumes nothing.
+use Prim.Native.Nat.{ℕ, _+_, _≤_}
 use mathlib.Core.Path.{_≡_, refl, ap, sym, _∙_}
 use mathlib.Core.Bool.{Bool, false}
-use mathlib.Core.List.{[], _∷_, _++_}
-use lib.ListN.{length, drop, set, replicate, length-append, length-replicate, length-set, drop-of-length-le}
+use mathlib.Core.List.{[]}
+use lib.ListN.{length, drop, replicate, length-append, length-replicate, drop-of-length-le}
 use Rattle.text.specs.Bytes.{Bytes}
 use Rattle.rules.specs.Lexemes.{Before, fieldStart, marked, symbols, lexed}
+use Rattle.lent.specs.Splice.{splice}
+use Rattle.lent.proofs.Writes.{splice-append}
 use Rattle.names.specs.Names.{slotByte}
-use Rattle.coding.specs.Splice.{splice}
 use Rattle.coding.specs.Coded.{codesFrom, fieldCode, behind, Leads}
 use Rattle.coding.specs.declared.Piece.{Piece}
-
-pub splice-length : (out : Bytes) (at : ℕ) (s : Bytes) → length (splice out at s) ≡ length out
-unfolding splice
-splice-length out at [] = refl
-splice-length out at (b ∷ s) = splice-length (set out at b) (suc at) s ∙ length-set out at b
-
--- one write after another, where the first ends
-pub splice-append : (out : Bytes) (at : ℕ) (s t : Bytes) → splice (splice out at s) (at + length s) t ≡ splice out at (s ++ t)
-unfolding splice
-splice-append out at [] t = rw add-zero
-splice-append out at (b ∷ s) t = rw (add-suc, ← suc-add) (splice-append (set out at b) (suc at) s t)
-
--- a turn of `fill`, and its end
-module _ (out : Bytes) (at byte count i : ℕ) where
-  pub fill-on : i < count → splice (set out (at + i) byte) (at + (i + 1)) (replicate (count - (i + 1)) byte) ≡ splice out (at + i) (replicate (count - i) byte)
-  unfolding splice
-  fill-on h =
-      let e : count - i ≡ suc (count - (i + 1)) = omega arith in
-      let f : at + (i + 1) ≡ suc (at + i) = omega arith in
-      rw (e, f)
-
-  pub fill-end : i ≡ count → splice out (at + i) (replicate (count - i) byte) ≡ out
-  unfolding splice
-  fill-end e = let z : count - i ≡ 0 = omega arith in rw z
 
 -- a field from its start on, and at its end
 pub from-start : (quotes : Bool) (own global shared field : Bytes)

@@ -2,10 +2,10 @@
 ghost use mathlib.Core.Path.{_≡_};
 ghost use mathlib.Core.List.{[], _∷_};
 ghost use Prim.Native.Nat.{_+_, _-_, _≤_, _<_};
-ghost use lib.ListN.{length, replicate};
+ghost use lib.ListN.{length};
 ghost use Rattle.rules.specs.Lexemes.{isMark};
+ghost use Rattle.lent.specs.Splice.{splice};
 ghost use Rattle.names.specs.Names.{slotByte};
-ghost use Rattle.coding.specs.Splice.{splice};
 ghost use Rattle.coding.specs.Coded.{fieldCode, symbolEnd, Leads};
 
 // A piece of a field: `count` times a byte, up to place `next`; and what stands before that place, the two bytes and whether a quote is open.
@@ -121,18 +121,6 @@ fn piece_at(
     }
 }
 
-// `count` times the byte, from `at` on.
-fn fill(out: &mut [u8], at: usize, byte: u8, count: usize)
-    requires { ⌜ at + count ≤ length (now out) ⌝ }
-    ensures { λ _. ⌜ now (out .exit) ≡ splice (now (out .entry)) at (replicate count byte) ⌝ }
-{
-    let mut i = 0;
-    while i < count {
-        out[at + i] = byte;
-        i += 1;
-    }
-}
-
 // The field's bytes, written from `from` on; answers where they end. An operand has quotes, a name or an operation none.
 pub fn put_field(
     field: &[u8],
@@ -164,7 +152,7 @@ pub fn put_field(
             global,
             shared,
         );
-        fill(out, to, piece.byte, piece.count);
+        lent::fill(out, to, piece.byte, piece.count);
         to += piece.count;
         at = piece.next;
         second = piece.second;

@@ -103,7 +103,7 @@ fn in_run(c: u8, spaces: bool) -> bool
 }
 
 // Where the run of spaces, or of anything but spaces, that stands at `at` ends.
-fn run_end(line: &[u8], at: usize, spaces: bool) -> usize
+pub fn run_end(line: &[u8], at: usize, spaces: bool) -> usize
     ensures { λ r. ⌜ r ≡ runEnd spaces (now (line .entry)) at ⌝ }
     ensures { λ r. ⌜ (at ≤ r) × (r ≤ at + (length (now (line .entry)) - at)) ⌝ }
 {

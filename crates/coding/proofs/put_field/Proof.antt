@@ -8,10 +8,11 @@ use lib.ListN.{length, drop}
 use Rattle.text.specs.Bytes.{Bytes}
 use Rattle.rules.specs.Lexemes.{Before}
 use Rattle.names.specs.Names.{slotByte}
-use Rattle.coding.specs.Splice.{splice}
+use Rattle.lent.specs.Splice.{splice}
+use Rattle.lent.proofs.Writes.{splice-length}
 use Rattle.coding.specs.Coded.{codesFrom, fieldCode, Leads}
 use Rattle.coding.specs.declared.Piece.{Piece}
-use Rattle.coding.proofs.Writes.{splice-length, from-start, codes-end, leads-size, leads-splice}
+use Rattle.coding.proofs.Writes.{from-start, codes-end, leads-size, leads-splice}
 use Rattle.coding.proofs.put_field.Statement.{statement}
 use Rattle.coding.proofs.put_field.Tie as tie
 

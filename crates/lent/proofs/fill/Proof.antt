@@ -5,10 +5,10 @@ use mathlib.Core.Path.{_≡_, refl, sym, _∙_}
 use native.Mathlib.Nat.{add-zero, sub-zero}
 use native.Mathlib.Omega.{arith}
 use lib.ListN.{length, replicate, length-set}
-use Rattle.coding.specs.Splice.{splice}
-use Rattle.coding.proofs.Writes.{fill-on, fill-end}
-use Rattle.coding.proofs.fill.Statement.{statement}
-use Rattle.coding.proofs.fill.Tie as tie
+use Rattle.lent.specs.Splice.{splice}
+use Rattle.lent.proofs.Writes.{fill-on, fill-end}
+use Rattle.lent.proofs.fill.Statement.{statement}
+use Rattle.lent.proofs.fill.Tie as tie
 
 abbrev Inv-loop : tie.InvT-loop
 Inv-loop out₀ at byte count i₀ out i =

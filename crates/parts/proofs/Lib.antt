@@ -1,0 +1,5 @@
+pub mod Scan
+pub mod Clear
+pub mod Cut
+pub mod Told
+pub mod Divided
