@@ -1,13 +1,16 @@
 // A statement in codes: what the line does, and which codes it keeps.
 ghost use mathlib.Core.Path.{_≡_};
-ghost use mathlib.Core.Bool.{Bool};
+ghost use mathlib.Core.Bool.{Bool, true, false};
+ghost use mathlib.Core.List.{_++_};
 ghost use Prim.Native.Nat.{_+_, _-_, _≤_, min};
 ghost use lib.Dec.{eqb};
 ghost use lib.ListN.{length, getD};
 ghost use Rattle.rules.specs.Choice.{choose};
 ghost use Rattle.rules.specs.Statement.{statements, model};
 ghost use Rattle.deck.specs.Coders.{branchesIfCode};
-ghost use Rattle.shapes.specs.Shapes.{isPlainCode, keepsNone, keepsOperand, branching, branchingIf, modelling, shapeOf};
+ghost use Rattle.lent.specs.Splice.{splice};
+ghost use Rattle.coding.specs.Coded.{fieldCode};
+ghost use Rattle.shapes.specs.Shapes.{endsOf, isPlainCode, keepsNone, keepsOperand, branching, branchingIf, modelling, shapeOf};
 
 // Where the codes of a statement's name, operation and operand end, one behind another.
 pub struct Codes {
@@ -125,5 +128,29 @@ fn modelling(label: bool, codes: Codes) -> Shape
         operand: codes.operation,
         rest: codes.operand,
         end: codes.operand,
+    }
+}
+
+// The codes of a statement's name, operation and operand, written one behind another from the buffer's start on.
+pub fn code_fields(
+    name: &[u8],
+    operation: &[u8],
+    operand: &[u8],
+    own: &[u8],
+    global: &[u8],
+    shared: &[u8],
+    code: &mut [u8],
+) -> Codes
+    requires { ⌜ length (now name) + (length (now operation) + length (now operand)) ≤ length (now code) ⌝ }
+    ensures { λ r. ⌜ r ≡ endsOf (fieldCode false (now (own .entry)) (now (global .entry)) (now (shared .entry)) (now (name .entry))) (fieldCode false (now (own .entry)) (now (global .entry)) (now (shared .entry)) (now (operation .entry))) (fieldCode true (now (own .entry)) (now (global .entry)) (now (shared .entry)) (now (operand .entry))) ⌝ }
+    ensures { λ _. ⌜ now (code .exit) ≡ splice (now (code .entry)) 0 (fieldCode false (now (own .entry)) (now (global .entry)) (now (shared .entry)) (now (name .entry)) ++ (fieldCode false (now (own .entry)) (now (global .entry)) (now (shared .entry)) (now (operation .entry)) ++ fieldCode true (now (own .entry)) (now (global .entry)) (now (shared .entry)) (now (operand .entry)))) ⌝ }
+{
+    let first = coding::put_field(name, false, own, global, shared, code, 0);
+    let second = coding::put_field(operation, false, own, global, shared, code, first);
+    let third = coding::put_field(operand, true, own, global, shared, code, second);
+    Codes {
+        name: first,
+        operation: second,
+        operand: third,
     }
 }
