@@ -1,5 +1,6 @@
 -- `labels::is_bad_target` meets its contract: by cases on the symbol's length and on who names it. Assumes nothing.
 use mathlib.Core.Path.{_≡_, refl, ap, sym, _∙_}
+use native.Mathlib.Omega.{arith}
 use mathlib.Core.Bool.{not}
 use mathlib.Core.List.{[]}
 use Rattle.labels.proofs.Targets.{no-symbol, inside, too-long, named-before, named-behind}
@@ -26,7 +27,7 @@ part-symbol-start : tie.Need-part-symbol-start
 part-symbol-start c = search needs
 
 part-symbol-end : tie.Need-part-symbol-end
-part-symbol-end c = inside [] [] _ _ (c .before .before .symbol-length .ensures) (c .before .if1 .left)
+part-symbol-end c = omega (arith, inside [] [] _ _ (c .before .before .symbol-length .ensures) (c .before .if1 .left))
 
 any-named-requires : tie.Need-any-named-requires
 any-named-requires c κs = search needs
