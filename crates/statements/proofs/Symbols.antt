@@ -1,11 +1,11 @@
 -- Names and sequence symbols, as code tests them: by the first bytes and the end of the letters and digits. Assumes nothing.
-use Prim.Native.Nat.{ℕ, suc, _+_, _-_, _≤_}
+use Prim.Native.Nat.{ℕ, suc, _+_, _-_, _≤_, min}
 use native.Mathlib.Omega.{arith}
 use mathlib.Core.Path.{_≡_, refl, ap, sym, _∙_}
 use mathlib.Core.Bool.{Bool, true, false, _&&_, false≢true, and-false}
 use mathlib.Core.List.{List, [], _∷_}
 use lib.Dec.{eqb, leb}
-use lib.ListN.{length, getD, take, drop, length-drop}
+use lib.ListN.{length, getD, take, drop, length-take, length-drop}
 use lib.Seq.{length-take-le, take-all}
 use borrow.Author.Tests.{eq-eqb, ne-eqb, eqb-true, eqb-false}
 use Rattle.text.specs.Bytes.{Bytes, bytes, same}
@@ -61,6 +61,12 @@ start-part (p ∷ []) = refl
 start-part (p ∷ (c ∷ s)) = by (eqb p period && letter c)
     (λ e. let q = chosen (c ∷ take (run letterOrDigit s) s) [] e in rw q (ap (λ n. c ∷ take n s) (sym (length-take-le (run letterOrDigit s) s (run-within letterOrDigit s)))))
     (λ e. rw (passed-over (c ∷ take (run letterOrDigit s) s) [] e) refl)
+
+pub start-within : (s : Bytes) → length (sequenceStart s) ≤ length s - 1
+start-within s =
+    let n = length (sequenceStart s) in
+    let h : n ≡ min n (length s - 1) = ap length (start-part s) ∙ (length-take n (drop 1 s) ∙ ap (min n) (length-drop 1 s)) in
+    omega (arith, h)
 
 -- the bytes behind the first
 pub behind-first : (s : Bytes) → take (length s - 1) (drop 1 s) ≡ drop 1 s

@@ -1,0 +1,4 @@
+pub mod Turns
+pub mod Bodies
+pub mod Macros
+pub mod Targets
