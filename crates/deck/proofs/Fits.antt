@@ -42,7 +42,7 @@ either-so true b h f g = f refl
 either-so false b h f g = g h
 
 -- a byte of 01's set is below the attribute mark's
-in-set-small : (c : ℕ) → inSet c ≡ true → c < 127
+pub in-set-small : (c : ℕ) → inSet c ≡ true → c < 127
 unfolding inSet
 in-set-small c h =
     either-so (leb 65 c && leb c 90) _ h (λ e. omega (arith, leb-true c 90 (and-right (leb 65 c) (leb c 90) e)))
