@@ -93,7 +93,7 @@ module _ (l : Bytes) (f : Fields) (names : Names) (globals : List (Bytes × Set)
   unfolding modelOf
   model-known o a = (either (KnownIn names) (isSequence (f .name)) (λ e. none-known names) (λ e. name-known), (o, a))
 
-  statement-known : (s : Statement) → hasBadBodyName globals names before from f s ≡ false → AllKnown names (says l f s)
+  pub statement-known : (s : Statement) → hasBadBodyName globals names before from f s ≡ false → AllKnown names (says l f s)
   unfolding says hasBadBodyName
   statement-known macro h = bare-known names passes
   statement-known mend h = bare-known names ends

@@ -44,7 +44,7 @@ module _ (names : Names) (globals : List (Bytes × Set)) (own global shared kind
   abbrev code : Lex Bytes → ℕ
   code = codeBy (slotByte own global shared)
 
-  unknown-lexemes : (x : List (Lex Bytes)) → every inSet (unlexed x) ≡ true → hasUnknown names x ≡ unknownIn (map code x)
+  pub unknown-lexemes : (x : List (Lex Bytes)) → every inSet (unlexed x) ≡ true → hasUnknown names x ≡ unknownIn (map code x)
   unfolding hasUnknown unknownIn refsIn codeBy unlexed any every
   unknown-lexemes [] e = refl
   unknown-lexemes (byte c ∷ x) e =
@@ -62,7 +62,7 @@ module _ (names : Names) (globals : List (Bytes × Set)) (own global shared kind
       tell b k e (known f g l) = l
       tell b k e (none f g) = clash (eq-eqb b unknownCode f) e
 
-  kinded-lexemes : (x : List (Lex Bytes)) → every inSet (unlexed x) ≡ true → unknownIn (map code x) ≡ false
+  pub kinded-lexemes : (x : List (Lex Bytes)) → every inSet (unlexed x) ≡ true → unknownIn (map code x) ≡ false
       → map (lexOf kinds) (map code x) ≡ map (mapLex (kindNamed names)) x
   unfolding unknownIn codeBy unlexed any every mapLex lexOf choose
   kinded-lexemes [] e f = refl
