@@ -85,6 +85,7 @@ module _ (test : Bytes → Bool) where
   module _ (s : Bytes) (h : 0 < length s) where
     abbrev l : Bytes
     l = take (first s) s
+
     abbrev r : Bytes
     r = drop (suc (first s)) s
 

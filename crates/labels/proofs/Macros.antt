@@ -1,16 +1,15 @@
 -- The macros of a library, by the places where their prototypes start and their bodies end. Assumes nothing.
-use Prim.Native.Nat.{ℕ, suc, _+_, _-_, _≤_, _<_}
-use native.Mathlib.Omega.{arith}
+use Prim.Native.Nat.{ℕ, _-_, _≤_, _<_}
 use mathlib.Core.Path.{_≡_, refl, ap, sym, _∙_}
-use mathlib.Core.Bool.{Bool, true, false, false≢true, _||_}
+use mathlib.Core.Bool.{true, false, false≢true, _||_}
 use mathlib.Core.List.{List, [], _∷_, _++_, append-assoc}
 use lib.Dec.{ltb}
 use lib.ListN.{length, take, drop}
 use borrow.Author.Tests.{ltb-true, ltb-false}
 use Rattle.text.specs.Bytes.{Bytes}
-use Rattle.rules.specs.Choice.{choose, any}
+use Rattle.rules.specs.Choice.{any}
 use Rattle.rules.specs.Fields.{linesOf}
-use Rattle.rules.specs.Library.{Macro, Place, outer, atPrototype, inBody, isMacro, isMend, macrosFrom}
+use Rattle.rules.specs.Library.{Macro, outer, atPrototype, inBody, isMacro, isMend, macrosFrom}
 use Rattle.rules.proofs.Choices.{chosen, passed-over, by}
 use Rattle.lines.specs.Ends.{lineEnd}
 use Rattle.lines.proofs.Found.{no-line}

@@ -1,14 +1,13 @@
 -- A symbol used twice, and a branch's target, by cases as code tests them. Assumes nothing.
-use Prim.Native.Nat.{ℕ, suc, _+_, _-_, _≤_, _<_}
+use Prim.Native.Nat.{ℕ, _+_, _-_, _≤_, _<_}
 use native.Mathlib.Omega.{arith}
 use mathlib.Core.Path.{_≡_, refl, ap, sym, _∙_}
 use mathlib.Core.Bool.{Bool, true, false, _&&_, _||_, not}
 use mathlib.Core.List.{List, [], _∷_}
-use lib.Dec.{ltb}
 use lib.ListN.{length, take, drop}
 use borrow.Author.Tests.{lt-ltb, le-ltb}
 use Rattle.text.specs.Bytes.{Bytes}
-use Rattle.rules.specs.Choice.{choose, any}
+use Rattle.rules.specs.Choice.{any}
 use Rattle.rules.specs.Lexemes.{isLong, sequenceStart, isSequence}
 use Rattle.rules.specs.Fields.{linesOf, isEmpty}
 use Rattle.rules.specs.Library.{isMend, isNamed}

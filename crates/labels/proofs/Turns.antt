@@ -1,5 +1,5 @@
 -- Searches over lines by place: what one more line decides. These are the steps of every loop over lines. Assumes nothing.
-use Prim.Native.Nat.{ℕ, zero, suc, _+_, _-_, _≤_, _<_, min}
+use Prim.Native.Nat.{ℕ, suc, _+_, _-_, _≤_, _<_}
 use native.Mathlib.Numerals.{add-one}
 use native.Mathlib.Omega.{arith}
 use mathlib.Core.Path.{_≡_, refl, ap, sym, _∙_}
@@ -10,10 +10,10 @@ use lib.ListN.{length, take, drop, length-drop}
 use lib.Seq.{length-take-le}
 use borrow.Author.Tests.{ltb-true, ltb-false}
 use Rattle.text.specs.Bytes.{Bytes, same}
-use Rattle.rules.specs.Choice.{choose, run, any}
+use Rattle.rules.specs.Choice.{choose, any}
 use Rattle.rules.specs.Fields.{linesOf}
 use Rattle.rules.specs.Library.{operationOf, isNamed, lineNamed}
-use Rattle.rules.proofs.Choices.{chosen, passed-over, by, either}
+use Rattle.rules.proofs.Choices.{chosen, passed-over, either}
 use Rattle.lines.specs.Ends.{inLine, lineEnd}
 use Rattle.lines.proofs.Found.{line-found, no-line}
 use Rattle.statements.proofs.Symbols.{run-within}

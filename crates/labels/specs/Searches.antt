@@ -4,7 +4,7 @@ use mathlib.Core.Bool.{Bool}
 use mathlib.Core.List.{List, [], _∷_}
 use lib.Dec.{ltb}
 use lib.ListN.{length, take, drop}
-use Rattle.text.specs.Bytes.{Bytes, bytes, same}
+use Rattle.text.specs.Bytes.{Bytes, same}
 use Rattle.rules.specs.Choice.{choose}
 use Rattle.rules.specs.Fields.{linesOf}
 use Rattle.rules.specs.Library.{operationOf, isMacro, isMend}

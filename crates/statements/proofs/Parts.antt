@@ -1,16 +1,15 @@
 -- A line's name and operation, by the places that cut them out; remarks by their first bytes. Assumes nothing.
-use Prim.Native.Nat.{ℕ, suc, _+_, _-_, _≤_}
+use Prim.Native.Nat.{ℕ, _-_}
 use native.Mathlib.Nat.{sub-zero}
 use native.Mathlib.Omega.{arith}
 use mathlib.Core.Path.{_≡_, refl, ap, sym, _∙_}
-use mathlib.Core.Bool.{Bool, true, false, _&&_, _||_, not, and-true}
-use mathlib.Core.List.{List, [], _∷_}
+use mathlib.Core.Bool.{true, false, _&&_, _||_, not, and-true}
+use mathlib.Core.List.{[], _∷_}
 use lib.Dec.{eqb}
 use borrow.Author.Tests.{eq-eqb, ne-eqb, eqb-true, eqb-false}
 use lib.ListN.{length, getD, take, drop}
 use Rattle.text.specs.Bytes.{Bytes, bytes, same}
-use Rattle.rules.specs.Choice.{choose}
-use Rattle.rules.specs.Fields.{Fields, isCopiedRemark, isDroppedRemark, isRemark, startsWith, noFields, fieldsOf, statementFields, isEmpty}
+use Rattle.rules.specs.Fields.{isCopiedRemark, isDroppedRemark, isRemark, startsWith, noFields, fieldsOf, statementFields, isEmpty}
 use Rattle.rules.specs.Lexemes.{isSequence}
 use Rattle.rules.specs.Library.{operationOf, isNamed}
 use Rattle.rules.specs.Faults.{isNamedOrEmpty}

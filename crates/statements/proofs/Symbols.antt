@@ -8,9 +8,9 @@ use lib.Dec.{eqb, leb}
 use lib.ListN.{length, getD, take, drop, length-take, length-drop}
 use lib.Seq.{length-take-le, take-all}
 use borrow.Author.Tests.{eq-eqb, ne-eqb, eqb-true, eqb-false}
-use Rattle.text.specs.Bytes.{Bytes, bytes, same}
+use Rattle.text.specs.Bytes.{Bytes}
 use Rattle.text.specs.Characters.{letter, letterOrDigit}
-use Rattle.rules.specs.Choice.{choose, run}
+use Rattle.rules.specs.Choice.{run}
 use Rattle.rules.specs.Limits.{nameLimit}
 use Rattle.rules.specs.Lexemes.{period, isName, sequenceStart, isSequence}
 use Rattle.rules.proofs.Choices.{chosen, passed-over, by}

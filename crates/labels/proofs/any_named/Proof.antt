@@ -1,6 +1,6 @@
 -- `labels::any_named` meets its contract: searching on from here answers what was asked. Assumes nothing.
-use mathlib.Core.Path.{_≡_, refl, ap, sym, _∙_}
-use Prim.Native.Nat.{_+_, _-_, _≤_, _<_}
+use mathlib.Core.Path.{_≡_, refl, sym, _∙_}
+use Prim.Native.Nat.{_-_, _≤_, _<_}
 use lib.ListN.{length, drop}
 use Rattle.rules.specs.Choice.{any}
 use Rattle.rules.specs.Fields.{linesOf}
@@ -35,7 +35,7 @@ is-named-requires : tie.Need-is-named-requires Inv-loop μ-loop
 is-named-requires c κs = search needs
 
 returns : tie.Need-returns Inv-loop μ-loop
-returns c = 
+returns c =
     let b = c .before .before .before .before .before in
     let a = b .before .before .before .args in
     let lines = a .lines .now in
@@ -50,7 +50,7 @@ loop-less : tie.Need-loop-less Inv-loop μ-loop
 loop-less c = search needs
 
 loop-again : tie.Need-loop-again Inv-loop μ-loop
-loop-again c = 
+loop-again c =
     let b = c .before .before .before .before .before in
     let a = b .before .before .before .args in
     let lines = a .lines .now in
@@ -59,7 +59,7 @@ loop-again c =
     b .loop .inv ∙ any-next lines (b .loop .at) _ lt (c .before .before .before .line-end .ensures .0) (isNamed (a .symbol .now)) test
 
 returns-2 : tie.Need-returns-2 Inv-loop μ-loop
-returns-2 c = 
+returns-2 c =
     let b = c .before in
     let a = b .before .before .before .args in
     let lines = a .lines .now in

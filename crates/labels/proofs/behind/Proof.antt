@@ -1,7 +1,7 @@
 -- `labels::behind` meets its contract: searching on from here ends where it was to end. Assumes nothing.
 use mathlib.Core.Path.{_≡_, refl, ap, sym, _∙_}
 use Prim.Native.Nat.{_+_, _-_, _≤_, _<_}
-use lib.ListN.{length, drop}
+use lib.ListN.{length}
 use native.Mathlib.Omega.{arith}
 use Rattle.labels.specs.Searches.{isOperation, behind}
 use Rattle.labels.proofs.Turns.{operation-is, none-behind, past-within, behind-found, behind-next}
@@ -40,7 +40,7 @@ equal-requires : tie.Need-equal-requires Inv-loop μ-loop
 equal-requires c κs = search needs
 
 returns : tie.Need-returns Inv-loop μ-loop
-returns c = 
+returns c =
     let b = c .before .before .before .before .before .before .before in
     let a = b .before .before .before .args in
     let file = a .file .now in
@@ -51,7 +51,7 @@ returns c =
     (is ∙ sym (b .loop .inv .2 ∙ behind-found file (b .loop .next) _ lt (c .before .before .before .before .before .line-end .ensures .0) (isOperation (a .word .now)) test), (omega (arith, past .0, is, b .loop .inv .0), omega (arith, past .1, is, b .loop .inv .0)))
 
 loop-less : tie.Need-loop-less Inv-loop μ-loop
-loop-less c = 
+loop-less c =
     let b = c .before .before .before .before .before .before .before in
     let a = b .before .before .before .args in
     let file = a .file .now in
@@ -62,7 +62,7 @@ loop-less c =
     omega (arith, past .0, past .1, is)
 
 loop-again : tie.Need-loop-again Inv-loop μ-loop
-loop-again c = 
+loop-again c =
     let b = c .before .before .before .before .before .before .before in
     let a = b .before .before .before .args in
     let file = a .file .now in
@@ -73,7 +73,7 @@ loop-again c =
     (omega (arith, past .0, is, b .loop .inv .0), omega (arith, past .1, is, b .loop .inv .0), b .loop .inv .2 ∙ (behind-next file (b .loop .next) _ lt (c .before .before .before .before .before .line-end .ensures .0) (isOperation (a .word .now)) test ∙ ap (behind (isOperation (a .word .now)) file) (sym is)))
 
 returns-2 : tie.Need-returns-2 Inv-loop μ-loop
-returns-2 c = 
+returns-2 c =
     let b = c .before in
     let a = b .before .before .before .args in
     let file = a .file .now in

@@ -1,5 +1,4 @@
 -- `labels::body_end` meets its contract: the operation is MEND. Assumes nothing.
-use mathlib.Core.Path.{_≡_, refl, ap, sym, _∙_}
 use Rattle.rules.specs.Library.{isMend}
 use Rattle.labels.specs.Searches.{isOperation, bodyEnd}
 use borrow.Author.Needs.{needs}

@@ -1,5 +1,5 @@
 -- `labels::is_bad_target` meets its contract: by cases on the symbol's length and on who names it. Assumes nothing.
-use mathlib.Core.Path.{_≡_, refl, ap, sym, _∙_}
+use mathlib.Core.Path.{ap, sym, _∙_}
 use native.Mathlib.Omega.{arith}
 use mathlib.Core.Bool.{not}
 use mathlib.Core.List.{[]}
@@ -39,7 +39,7 @@ named-up-to-mend-requires : tie.Need-named-up-to-mend-requires
 named-up-to-mend-requires c κs = search needs
 
 returns-4 : tie.Need-returns-4
-returns-4 c = 
+returns-4 c =
     ap not (c .named-up-to-mend .ensures)
     ∙ named-behind _ _ _ _ (c .before .before .before .before .before .before .symbol-length .ensures) (c .before .before .before .before .before .if1 .left) (c .before .before .before .before .if2 .left) (sym (c .before .before .any-named .ensures) ∙ c .before .if3 .left)
 

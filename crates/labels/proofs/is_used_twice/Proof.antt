@@ -1,7 +1,5 @@
 -- `labels::is_used_twice` meets its contract: a sequence symbol is searched for without its period. Assumes nothing.
-use mathlib.Core.Path.{_≡_, refl, ap, sym, _∙_}
-use Prim.Native.Nat.{_≤_}
-use lib.ListN.{length}
+use mathlib.Core.Path.{sym, _∙_}
 use borrow.Author.Tests.{not-true, not-false}
 use Rattle.statements.proofs.Symbols.{sequence-there}
 use Rattle.labels.proofs.Targets.{used-once, used-before}

@@ -1,5 +1,5 @@
 -- `labels::line_named` meets its contract: counting on from here gives the number. Assumes nothing.
-use mathlib.Core.Path.{_≡_, refl, ap, sym, _∙_}
+use mathlib.Core.Path.{_≡_, sym, _∙_}
 use Prim.Native.Nat.{_+_, _-_, _≤_, _<_}
 use lib.ListN.{length, drop}
 use native.Mathlib.Nat.{zero-add}
@@ -36,7 +36,7 @@ is-named-requires : tie.Need-is-named-requires Inv-loop μ-loop
 is-named-requires c κs = search needs
 
 returns : tie.Need-returns Inv-loop μ-loop
-returns c = 
+returns c =
     let b = c .before .before .before .before .before in
     let a = b .before .before .before .args in
     let lines = a .lines .now in
@@ -54,7 +54,7 @@ loop-less : tie.Need-loop-less Inv-loop μ-loop
 loop-less c = search needs
 
 loop-again : tie.Need-loop-again Inv-loop μ-loop
-loop-again c = 
+loop-again c =
     let b = c .before .before .before .before .before in
     let a = b .before .before .before .args in
     let lines = a .lines .now in
@@ -63,7 +63,7 @@ loop-again c =
     (search needs, b .loop .inv .1 ∙ count-next lines (b .loop .at) _ lt (c .before .before .before .line-end .ensures .0) (a .symbol .now) (b .loop .number) test)
 
 returns-2 : tie.Need-returns-2 Inv-loop μ-loop
-returns-2 c = 
+returns-2 c =
     let b = c .before in
     let a = b .before .before .before .args in
     let lines = a .lines .now in

@@ -1,5 +1,5 @@
 -- `labels::named_up_to_mend` meets its contract: the lines up to MEND are those before the body's end. Assumes nothing.
-use mathlib.Core.Path.{_≡_, refl, ap, sym, _∙_}
+use mathlib.Core.Path.{_∙_}
 use Rattle.labels.proofs.Targets.{named-in-body}
 use borrow.Author.Needs.{needs}
 use Rattle.labels.proofs.named_up_to_mend.Statement.{statement}

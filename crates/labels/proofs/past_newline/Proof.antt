@@ -1,6 +1,5 @@
 -- `labels::past_newline` meets its contract: by its test. Assumes nothing.
-use mathlib.Core.Path.{_≡_, refl, ap, sym, _∙_}
-use lib.ListN.{length}
+use mathlib.Core.Path.{sym}
 use borrow.Author.Tests.{lt-ltb, le-ltb}
 use Rattle.rules.proofs.Choices.{chosen, passed-over}
 use Rattle.labels.specs.Searches.{pastNewline}

@@ -1,5 +1,4 @@
 -- `labels::prototype_start` meets its contract: the operation is MACRO. Assumes nothing.
-use mathlib.Core.Path.{_≡_, refl, ap, sym, _∙_}
 use Rattle.rules.specs.Library.{isMacro}
 use Rattle.labels.specs.Searches.{isOperation, prototypeStart}
 use borrow.Author.Needs.{needs}

@@ -1,5 +1,5 @@
 -- `statements::is_long_sequence` meets its contract: the length of its sequence symbol tells. Assumes nothing.
-use mathlib.Core.Path.{_≡_, refl, ap, sym, _∙_}
+use mathlib.Core.Path.{ap}
 use lib.Dec.{ltb}
 use Rattle.rules.specs.Lexemes.{isLong}
 use Rattle.rules.specs.Faults.{isLongSequence}

@@ -1,5 +1,5 @@
 -- `statements::is_mend` meets its contract: the operation is compared. Assumes nothing.
-use mathlib.Core.Path.{_≡_, refl, ap, sym, _∙_}
+use mathlib.Core.Path.{ap, _∙_}
 use Rattle.text.specs.Bytes.{bytes, same}
 use Rattle.rules.specs.Library.{isMend}
 use borrow.Author.Needs.{needs}

@@ -1,6 +1,6 @@
 -- `statements::is_model_name` meets its contract: the first byte, and whether it is a sequence symbol. Assumes nothing.
-use mathlib.Core.Path.{_≡_, refl, ap, sym, _∙_}
-use mathlib.Core.Bool.{_&&_, _||_, not}
+use mathlib.Core.Path.{ap, _∙_}
+use mathlib.Core.Bool.{_||_, not}
 use lib.Dec.{eqb}
 use Rattle.rules.specs.Lexemes.{isSequence}
 use Rattle.rules.specs.Faults.{isModelName}

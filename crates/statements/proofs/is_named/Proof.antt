@@ -1,7 +1,5 @@
 -- `statements::is_named` meets its contract: the bytes behind the period of its name are compared. Assumes nothing.
-use mathlib.Core.Path.{_≡_, refl, ap, sym, _∙_}
-use Prim.Native.Nat.{_≤_}
-use lib.ListN.{length}
+use mathlib.Core.Path.{sym, _∙_}
 use borrow.Author.Tests.{not-true, not-false}
 use Rattle.statements.proofs.Symbols.{sequence-there}
 use Rattle.statements.proofs.Parts.{not-named, named-as}

@@ -1,5 +1,5 @@
 -- `statements::is_named_or_empty` meets its contract: by cases on the length. Assumes nothing.
-use mathlib.Core.Path.{_≡_, refl, ap, sym, _∙_}
+use mathlib.Core.Path.{_∙_}
 use Rattle.statements.proofs.Parts.{empty-or, named-or}
 use borrow.Author.Needs.{needs}
 use Rattle.statements.proofs.is_named_or_empty.Statement.{statement}

@@ -1,6 +1,6 @@
 -- `statements::is_remark` meets its contract: the first two bytes tell. Assumes nothing.
-use mathlib.Core.Path.{_≡_, refl, ap, sym, _∙_}
-use mathlib.Core.Bool.{_&&_, _||_, not}
+use mathlib.Core.Path.{_∙_}
+use mathlib.Core.Bool.{_&&_, _||_}
 use lib.Dec.{eqb}
 use Rattle.statements.proofs.Parts.{remark-is}
 use borrow.Author.Needs.{needs}

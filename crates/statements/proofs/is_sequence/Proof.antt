@@ -1,6 +1,6 @@
 -- `statements::is_sequence` meets its contract: a period and a name behind it. Assumes nothing.
-use mathlib.Core.Path.{_≡_, refl, ap, sym, _∙_}
-use mathlib.Core.Bool.{_&&_, _||_, not}
+use mathlib.Core.Path.{ap, _∙_}
+use mathlib.Core.Bool.{_&&_}
 use lib.Dec.{eqb}
 use lib.ListN.{length, getD}
 use Prim.Native.Nat.{_≤_}

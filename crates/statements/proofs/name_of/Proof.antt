@@ -1,5 +1,5 @@
 -- `statements::name_of` meets its contract: the run of non-spaces at the start is the name. Assumes nothing.
-use mathlib.Core.Path.{_≡_, refl, ap, sym, _∙_}
+use mathlib.Core.Path.{sym, _∙_}
 use Rattle.statements.proofs.Parts.{remark-name, name-cut}
 use borrow.Author.Needs.{needs}
 use Rattle.statements.proofs.name_of.Statement.{statement}

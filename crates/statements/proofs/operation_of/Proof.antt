@@ -1,5 +1,5 @@
 -- `statements::operation_of` meets its contract: the second run of non-spaces is the operation. Assumes nothing.
-use mathlib.Core.Path.{_≡_, refl, ap, sym, _∙_}
+use mathlib.Core.Path.{sym, _∙_}
 use Rattle.statements.proofs.Parts.{remark-operation, operation-cut}
 use borrow.Author.Needs.{needs}
 use Rattle.statements.proofs.operation_of.Statement.{statement}

@@ -1,6 +1,6 @@
 -- `statements::symbol_length` meets its contract: the end of the letters and digits behind a period and a letter. Assumes nothing.
-use mathlib.Core.Path.{_≡_, refl, ap, sym, _∙_}
-use mathlib.Core.Bool.{_&&_, _||_, not}
+use mathlib.Core.Path.{ap, sym, _∙_}
+use mathlib.Core.Bool.{_&&_}
 use Prim.Native.Nat.{_-_}
 use lib.Dec.{eqb}
 use Rattle.text.specs.Characters.{letter}
