@@ -133,16 +133,16 @@ module _ (names : Names) (globals : List (Bytes × Set)) (own global shared kind
         ours = s ∙ (ap (_++ (n ∷ [])) (h .ours) ∙ sym (firsts-append globals more));
         my-kinds = ap (take (length (ownNames names))) e ∙ (take-set-le (length (ownNames names)) kinds (64 + length globals) v (omega (arith, h .few)) ∙ h .my-kinds);
         our-kinds =
-          ap (λ (t : Bytes). take (length (globals ++ more)) (drop 64 t)) e
-          ∙ (ap (take (length (globals ++ more))) (drop-set-add 64 kinds (length globals) v)
-          ∙ (ap (λ (m : ℕ). take m (set (drop 64 kinds) (length globals) v)) c
-          ∙ (take-suc-set (drop 64 kinds) (length globals) v here
-          ∙ (ap (_++ (v ∷ [])) (h .our-kinds) ∙ sym (map-append (λ x. numberOf (symbol (x .1))) globals more)))));
+            ap (λ (t : Bytes). take (length (globals ++ more)) (drop 64 t)) e
+            ∙ (ap (take (length (globals ++ more))) (drop-set-add 64 kinds (length globals) v)
+            ∙ (ap (λ (m : ℕ). take m (set (drop 64 kinds) (length globals) v)) c
+            ∙ (take-suc-set (drop 64 kinds) (length globals) v here
+            ∙ (ap (_++ (v ∷ [])) (h .our-kinds) ∙ sym (map-append (λ x. numberOf (symbol (x .1))) globals more)))));
         few = h .few;
         fewer = omega (arith, room, c);
         agree =
-          kinds-agree (gs ++ more) (globals ++ more)
-          (same-more gs (globals ++ more) n k (λ m j q. in-front globals more m j (same-kinds gs globals (h .agree) m j q)) (comes-in k globals n a));
+            kinds-agree (gs ++ more) (globals ++ more)
+            (same-more gs (globals ++ more) n k (λ m j q. in-front globals more m j (same-kinds gs globals (h .agree) m j q)) (comes-in k globals n a));
       }
 
 -- ---- a line's names, one after another
