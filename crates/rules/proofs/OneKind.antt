@@ -27,12 +27,12 @@ use Rattle.rules.proofs.Choices.{either, passed-over}
 use Rattle.rules.proofs.Logic.{clash, or-left, or-right, All, all-same}
 use Rattle.rules.proofs.Accepted.{Faultless, refused, first-line, around, readings}
 
-abbrev Globals : Type 0
+abbrev pub Globals : Type 0
 Globals = List (Bytes × Set)
 
 -- ---- the kind that the first entry of a name gives
 
-abbrev kindIn : Globals → Bytes → Option Set
+abbrev pub kindIn : Globals → Bytes → Option Set
 kindIn [] n = none
 kindIn (g ∷ gs) n = choose (same (g .0) n) (some (g .1)) (kindIn gs n)
 
@@ -40,15 +40,15 @@ abbrev isNone : Option Set → Type 0
 isNone none = Unit {0}
 isNone (some k) = ⊥
 
-none-is-not : {P : Type 0} {k : Set} → none ≡ some k → P
+pub none-is-not : {P : Type 0} {k : Set} → none ≡ some k → P
 none-is-not h = absurd (subst isNone h tt)
 
-same-kind : {j k : Set} → some j ≡ some k → j ≡ k
+pub same-kind : {j k : Set} → some j ≡ some k → j ≡ k
 same-kind h = ap (λ (o : Option Set). elim o [ none ↦ setA | some k ↦ k ]) h
 
 -- ---- lists of globals that are joined
 
-in-front : (s t : Globals) (n : Bytes) (k : Set) → kindIn s n ≡ some k → kindIn (s ++ t) n ≡ some k
+pub in-front : (s t : Globals) (n : Bytes) (k : Set) → kindIn s n ≡ some k → kindIn (s ++ t) n ≡ some k
 unfolding choose
 in-front [] t n k h = none-is-not h
 in-front (g ∷ s) t n k h = go (same (g .0) n) h (in-front s t n k)
@@ -58,7 +58,7 @@ in-front (g ∷ s) t n k h = go (same (g .0) n) h (in-front s t n k)
     go true h ih = h
     go false h ih = ih h
 
-in-part : {P : Type 0} (s t : Globals) (n : Bytes) (k : Set) → kindIn (s ++ t) n ≡ some k → (kindIn s n ≡ some k → P) → (kindIn t n ≡ some k → P) → P
+pub in-part : {P : Type 0} (s t : Globals) (n : Bytes) (k : Set) → kindIn (s ++ t) n ≡ some k → (kindIn s n ≡ some k → P) → (kindIn t n ≡ some k → P) → P
 unfolding choose
 in-part [] t n k h f g = g h
 in-part {P} (e ∷ s) t n k h f g = go (same (e .0) n) h f (λ r p. in-part s t n k r p g)
@@ -111,7 +111,7 @@ itself setB = refl
 itself setC = refl
 
 -- a name with no other kind has this one, once it is there
-has-this : (k : Set) (gs : Globals) (n : Bytes) → isAmong n gs ≡ true → hasOtherKind k gs n ≡ false → kindIn gs n ≡ some k
+pub has-this : (k : Set) (gs : Globals) (n : Bytes) → isAmong n gs ≡ true → hasOtherKind k gs n ≡ false → kindIn gs n ≡ some k
 unfolding isAmong hasOtherKind any choose
 has-this k [] n h o = clash h refl
 has-this k (g ∷ gs) n h o =
@@ -127,7 +127,7 @@ is-itself [] = refl
 is-itself (c ∷ n) = ap (λ (b : Bool). b && same n n) (eq-eqb c c refl) ∙ is-itself n
 
 -- a new name has the kind that it is added with
-comes-in : (k : Set) (gs : Globals) (n : Bytes) → isAmong n gs ≡ false → kindIn (gs ++ ((n, k) ∷ [])) n ≡ some k
+pub comes-in : (k : Set) (gs : Globals) (n : Bytes) → isAmong n gs ≡ false → kindIn (gs ++ ((n, k) ∷ [])) n ≡ some k
 unfolding isAmong choose
 comes-in k [] n h = ap (λ (b : Bool). choose b (some k) none) (is-itself n)
 comes-in k (g ∷ gs) n h = passed-over _ _ (or-left (same (g .0) n) _ h) ∙ comes-in k gs n (or-right (same (g .0) n) _ h)
@@ -309,7 +309,7 @@ agrees-at (m ∷ ms) gs a (suc k) n j h = agrees-at ms _ (a .1) k n j h
 
 -- ---- by place
 
-found-kind : (gs : Globals) (n : Bytes) → placeAmong (firsts gs) n < length gs → kindIn gs n ≡ some (getD (seconds gs) (placeAmong (firsts gs) n) setA)
+pub found-kind : (gs : Globals) (n : Bytes) → placeAmong (firsts gs) n < length gs → kindIn gs n ≡ some (getD (seconds gs) (placeAmong (firsts gs) n) setA)
 unfolding firsts seconds choose
 found-kind [] n h = absurd (not-suc-le-zero h)
 found-kind (g ∷ gs) n h = go (same (g .0) n) h (found-kind gs n)
@@ -331,7 +331,7 @@ kind-at (g ∷ gs) n j h = go (same (g .0) n) h (kind-at gs n j)
     go true h ih = ap symbol (same-kind h)
     go false h ih = ih h
 
-in-range : (gs : Globals) (n : Bytes) (j : Set) → kindIn gs n ≡ some j → placeAmong (firsts gs) n < length gs
+pub in-range : (gs : Globals) (n : Bytes) (j : Set) → kindIn gs n ≡ some j → placeAmong (firsts gs) n < length gs
 unfolding firsts choose
 in-range [] n j h = none-is-not h
 in-range (g ∷ gs) n j h = go (same (g .0) n) h (in-range gs n j)

@@ -35,7 +35,7 @@ same-sym (c ∷ s) (d ∷ t) = λ i. eqb-sym c d i && same-sym s t i
 
 -- ---- places among names
 
-known-place : (n : Bytes) (ws : List Bytes) → any (same n) ws ≡ true → placeAmong ws n < length ws
+pub known-place : (n : Bytes) (ws : List Bytes) → any (same n) ws ≡ true → placeAmong ws n < length ws
 unfolding any
 known-place n [] h = absurd (false≢true h)
 known-place n (w ∷ ws) h = go (same w n) (ap (λ (b : Bool). b || any (same n) ws) (same-sym w n) ∙ h) (known-place n ws)
@@ -44,7 +44,7 @@ known-place n (w ∷ ws) h = go (same w n) (ap (λ (b : Bool). b || any (same n)
     go true h ih = omega arith
     go false h ih = omega (arith, ih h)
 
-unknown-place : (n : Bytes) (ws : List Bytes) → any (same n) ws ≡ false → length ws ≤ placeAmong ws n
+pub unknown-place : (n : Bytes) (ws : List Bytes) → any (same n) ws ≡ false → length ws ≤ placeAmong ws n
 unfolding any
 unknown-place n [] h = omega arith
 unknown-place n (w ∷ ws) h = go (same w n) (ap (λ (b : Bool). b || any (same n) ws) (same-sym w n) ∙ h) (unknown-place n ws)
@@ -53,7 +53,7 @@ unknown-place n (w ∷ ws) h = go (same w n) (ap (λ (b : Bool). b || any (same 
     go true h ih = absurd (true≢false h)
     go false h ih = omega (arith, ih h)
 
-place-in-front : (n : Bytes) (s t : List Bytes) → placeAmong s n < length s → placeAmong (s ++ t) n ≡ placeAmong s n
+pub place-in-front : (n : Bytes) (s t : List Bytes) → placeAmong s n < length s → placeAmong (s ++ t) n ≡ placeAmong s n
 place-in-front n [] t h = absurd (not-suc-le-zero h)
 place-in-front n (w ∷ s) t h = go (same w n) h (place-in-front n s t)
   where
@@ -62,7 +62,7 @@ place-in-front n (w ∷ s) t h = go (same w n) h (place-in-front n s t)
     go true h ih = refl
     go false h ih = ap suc (ih (le-of-suc-le-suc h))
 
-place-behind : (n : Bytes) (s t : List Bytes) → length s ≤ placeAmong s n → placeAmong (s ++ t) n ≡ length s + placeAmong t n
+pub place-behind : (n : Bytes) (s t : List Bytes) → length s ≤ placeAmong s n → placeAmong (s ++ t) n ≡ length s + placeAmong t n
 place-behind n [] t h = omega arith
 place-behind n (w ∷ s) t h = go (same w n) h (place-behind n s t)
   where
@@ -74,12 +74,12 @@ place-behind n (w ∷ s) t h = go (same w n) h (place-behind n s t)
 -- ---- names with their kinds
 
 module _ {X : Type 0} where
-  firsts-append : (s t : List (Bytes × X)) → firsts (s ++ t) ≡ firsts s ++ firsts t
+  pub firsts-append : (s t : List (Bytes × X)) → firsts (s ++ t) ≡ firsts s ++ firsts t
   unfolding firsts
   firsts-append [] t = refl
   firsts-append (a ∷ s) t = ap (λ (l : List Bytes). a .0 ∷ l) (firsts-append s t)
 
-  seconds-append : (s t : List (Bytes × X)) → seconds (s ++ t) ≡ seconds s ++ seconds t
+  pub seconds-append : (s t : List (Bytes × X)) → seconds (s ++ t) ≡ seconds s ++ seconds t
   unfolding seconds
   seconds-append [] t = refl
   seconds-append (a ∷ s) t = ap (λ (l : List X). a .1 ∷ l) (seconds-append s t)

@@ -2,24 +2,24 @@
 use Prim.Native.Nat.{ℕ, _≤_}
 use native.Mathlib.Omega.{arith}
 use mathlib.Core.Path.{_≡_, refl, ap, sym, _∙_}
-use mathlib.Core.Bool.{Bool, true, false, _&&_, _||_}
-use mathlib.Core.List.{List, [], _∷_, _++_, map}
+use mathlib.Core.Bool.{Bool, true, false, _||_}
+use mathlib.Core.List.{List, [], _∷_, map}
 use lib.Dec.{eqb}
 use lib.ListN.{length, length-map}
 use borrow.Author.Tests.{eq-eqb, ne-eqb}
 use Rattle.text.specs.Bytes.{Bytes}
 use Rattle.text.specs.Characters.{inSet}
 use Rattle.rules.specs.Choice.{choose, every, any}
-use Rattle.rules.specs.Lexemes.{Lex, byte, mark, ref, lone, isLong, lexed, unlexed, refsIn}
+use Rattle.rules.specs.Lexemes.{Lex, byte, mark, ref, lone, lexed, unlexed, refsIn}
 use Rattle.rules.specs.Statement.{Set, mapLex}
 use Rattle.rules.specs.Grammar.{Kind}
 use Rattle.rules.specs.Library.{Names}
-use Rattle.rules.specs.Faults.{kindNamed, isUnknownKind, hasUnknown}
-use Rattle.rules.proofs.Choices.{by, and-left, and-right}
+use Rattle.rules.specs.Faults.{kindNamed, hasUnknown}
+use Rattle.rules.proofs.Choices.{and-left, and-right}
 use Rattle.rules.proofs.Logic.{clash, or-left, or-right}
 use Rattle.rules.proofs.Lossless.{lexed-back}
 use Rattle.rules.proofs.ReadLines.{every-behind, lexemes-short}
-use Rattle.deck.specs.Coders.{markCode, unknownCode, noCode}
+use Rattle.deck.specs.Coders.{unknownCode}
 use Rattle.deck.proofs.Fits.{in-set-small}
 use Rattle.names.specs.Names.{slotByte}
 use Rattle.coding.specs.Coded.{codeBy, fieldCode}

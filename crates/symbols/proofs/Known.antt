@@ -5,9 +5,9 @@ use native.Mathlib.Nat.{not-suc-le-zero}
 use native.Mathlib.Omega.{arith}
 use mathlib.Core.Path.{_≡_, refl, ap, sym, _∙_, subst}
 use mathlib.Core.Bool.{Bool, true, false, _||_, or-true}
-use mathlib.Core.List.{List, [], _∷_, _++_, map}
+use mathlib.Core.List.{List, [], _∷_, map}
 use lib.Dec.{eqb, ltb}
-use lib.ListN.{length, getD, take, drop, length-append, length-map, length-take}
+use lib.ListN.{length, getD, drop, length-append, length-map, length-take}
 use lib.Seq.{getD-take, getD-drop}
 use borrow.Author.Tests.{ltb-true, lt-ltb, le-ltb, ne-eqb}
 use Rattle.text.specs.Bytes.{Bytes, bytes, same}
@@ -15,7 +15,7 @@ use Rattle.text.specs.Words.{placeAmong}
 use Rattle.text.proofs.Same.{same-is}
 use Rattle.rules.specs.Choice.{choose}
 use Rattle.rules.specs.Limits.{nameLimit}
-use Rattle.rules.specs.Lexemes.{Lex, byte, mark, ref, lone, isLong}
+use Rattle.rules.specs.Lexemes.{byte, ref, isLong}
 use Rattle.rules.specs.Statement.{Set, setA, setB, setC}
 use Rattle.rules.specs.Grammar.{Kind, parameter, symbol, syslist, sysndx, sysect, unknown}
 use Rattle.rules.specs.Evaluate.{Cell, ownCell, sharedCell}

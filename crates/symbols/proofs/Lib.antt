@@ -1,3 +1,4 @@
 pub mod Search
 pub mod Known
 pub mod Fields
+pub mod Kept

@@ -1,5 +1,5 @@
 -- Tables that hold a macro's names and their kinds, and the library's globals; and a field's bytes with a symbol that is not known. Assumes nothing.
-use Prim.Native.Nat.{ℕ, _≤_, _<_}
+use Prim.Native.Nat.{_≤_, _<_}
 use mathlib.Core.Path.{_≡_}
 use mathlib.Core.Bool.{Bool}
 use mathlib.Core.List.{List, map}

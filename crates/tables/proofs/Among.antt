@@ -11,7 +11,7 @@ use Rattle.text.specs.Bytes.{Bytes, same}
 use Rattle.text.specs.Words.{placeAmong}
 use Rattle.text.specs.Characters.{letter, digit, letterOrDigit}
 use Rattle.text.proofs.Same.{other-length}
-use Rattle.rules.specs.Choice.{choose, every, any, run}
+use Rattle.rules.specs.Choice.{every, any, run}
 use Rattle.rules.specs.Limits.{macroNameLimit}
 use Rattle.rules.specs.Lexemes.{space, isName}
 use Rattle.rules.specs.Fields.{isNoSpace}
