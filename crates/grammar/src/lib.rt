@@ -25,7 +25,7 @@ pub enum Formed {
 }
 
 // The byte of text at a place; 0 where none stands there.
-fn text_at(code: &[u8], at: usize) -> u8
+pub fn text_at(code: &[u8], at: usize) -> u8
     ensures { λ r. ⌜ ((kinds : Bytes) → r ≡ plain (toksAt kinds (now (code .entry)) at)) ⌝ }
 {
     let b = lent::byte(code, at);
@@ -40,7 +40,7 @@ fn mark_at(code: &[u8], at: usize) -> bool
 }
 
 // Whether K', N' or T' stands at a place: the letter `c`, and a mark.
-fn attribute_at(code: &[u8], c: u8, at: usize) -> bool
+pub fn attribute_at(code: &[u8], c: u8, at: usize) -> bool
     requires { ⌜ 0 < c ⌝ }
     ensures { λ r. ⌜ ((kinds : Bytes) → r ≡ isAttribute c (toksAt kinds (now (code .entry)) at)) ⌝ }
 {
@@ -62,7 +62,7 @@ fn slot_kind(kinds: &[u8], i: usize) -> u8
 }
 
 // The kind of the variable symbol at a place; 255 where none stands there.
-fn kind_at(kinds: &[u8], code: &[u8], at: usize) -> u8
+pub fn kind_at(kinds: &[u8], code: &[u8], at: usize) -> u8
     ensures { λ r. ⌜ r ≡ kindNumber (toksAt (now (kinds .entry)) (now (code .entry)) at) ⌝ }
 {
     let b = lent::byte(code, at);
@@ -76,7 +76,7 @@ fn kind_at(kinds: &[u8], code: &[u8], at: usize) -> u8
 }
 
 // The parenthesis that closes.
-fn closed(code: &[u8], so_far: Formed) -> Formed
+pub fn closed(code: &[u8], so_far: Formed) -> Formed
     ensures { λ r. ⌜ ((kinds : Bytes) → tells (toksAt kinds (now (code .entry))) r ≡ then (tells (toksAt kinds (now (code .entry))) «so_far») closedBy) ⌝ }
 {
     match so_far {
@@ -205,7 +205,7 @@ fn subscripts(kinds: &[u8], code: &[u8], at: usize, nest: usize, kind: u8) -> Fo
 }
 
 // A reference that the table takes, as the term that starts at `here`.
-fn referred(kinds: &[u8], code: &[u8], at: usize, nest: usize, here: usize, table: u8) -> Formed
+pub fn referred(kinds: &[u8], code: &[u8], at: usize, nest: usize, here: usize, table: u8) -> Formed
     ensures { λ r. ⌜ Tells (referred form (deeper form nest) (tableOf table) (λ r. some tt) (toksAt (now (kinds .entry)) (now (code .entry)) here)) (now (kinds .entry)) (now (code .entry)) at r ⌝ }
 {
     let kind = kind_at(kinds, code, at);
