@@ -17,7 +17,7 @@ abbrev pub Lexes : Type 0
 Lexes = List (Lex Bytes)
 
 -- a byte that passes a test which d does not is not d
-not-by : (test : ℕ → Bool) (d : ℕ) → test d ≡ false → (k : ℕ) → test k ≡ true → eqb k d ≡ false
+pub not-by : (test : ℕ → Bool) (d : ℕ) → test d ≡ false → (k : ℕ) → test k ≡ true → eqb k d ≡ false
 not-by test d f k t = by (eqb k d) (λ e. absurd (false≢true (sym (ap test (eqb-true k d e) ∙ f) ∙ t))) (λ e. e)
 
 -- a lexeme that opens and closes nothing
