@@ -1,12 +1,12 @@
 -- What the first bare `=` of a part says of it: whether the part may stand in a prototype, and whether a text may stand as a default. Assumes nothing.
-use Prim.Native.Nat.{ℕ, zero, suc, _+_, _-_, _≤_, _<_}
+use Prim.Native.Nat.{ℕ, suc, _+_, _-_, _≤_, _<_}
 use native.Mathlib.Nat.{sub-zero}
 use native.Mathlib.Omega.{arith}
 use mathlib.Core.Path.{_≡_, refl, ap, sym, _∙_}
 use mathlib.Core.Bool.{Bool, true, false, _&&_, _||_, not}
 use lib.Dec.{eqb, ltb}
 use lib.ListN.{length, take, drop}
-use borrow.Author.Tests.{eqb-true, eqb-false, eq-eqb, ne-eqb, lt-ltb, le-ltb}
+use borrow.Author.Tests.{eqb-true, eqb-false, lt-ltb, le-ltb}
 use Rattle.text.specs.Bytes.{Bytes}
 use Rattle.rules.specs.Choice.{every}
 use Rattle.rules.specs.Lexemes.{equals, lexed, isPlain, outside}
@@ -15,7 +15,7 @@ use Rattle.rules.specs.Library.{isOneSymbol}
 use Rattle.rules.specs.Faults.{beforeEquals, isDefault, isGoodPart}
 use Rattle.rules.proofs.Choices.{by}
 use Rattle.parts.specs.Parts.{bareAt}
-use Rattle.parts.proofs.Told.{before-is, has-equals-is, default-is}
+use Rattle.parts.proofs.Told.{before-is, has-equals-is, default-cut}
 use Rattle.declared.proofs.Unmarked.{Lexes}
 
 module _ (s : Bytes) (end : ℕ) (e : end ≡ 0 + bareAt equals s) where
@@ -34,7 +34,7 @@ module _ (s : Bytes) (end : ℕ) (e : end ≡ 0 + bareAt equals s) where
   pub default-told : end < length s → drop (suc (equalsAt x)) x ≡ lexed true (drop (end + 1) s)
   default-told h =
       let n : suc (bareAt equals s) ≡ end + 1 = omega (arith, e) in
-      default-is s (omega (arith, h, e)) ∙ ap (λ (n : ℕ). lexed true (drop n s)) n
+      default-cut s (omega (arith, h, e)) ∙ ap (λ (n : ℕ). lexed true (drop n s)) n
 
   -- no bare `=` is one thing with a cut at the end
   none-told : end ≤ length s → eqb end (length s) ≡ not (hasEquals x)

@@ -1,16 +1,15 @@
 -- Quotes and parentheses pair among a text's lexemes as among its bytes, and by place. Assumes nothing.
-use Prim.Native.Nat.{ℕ, zero, suc, _+_, _≤_, _<_}
+use Prim.Native.Nat.{ℕ, _+_, _≤_, _<_}
 use mathlib.Core.Path.{_≡_, refl, ap, sym, _∙_}
 use mathlib.Core.Bool.{Bool, true, false, _&&_, not}
-use mathlib.Core.List.{List, [], _∷_, _++_}
+use mathlib.Core.List.{[], _∷_, _++_}
 use lib.Dec.{eqb}
 use lib.ListN.{length, getD, drop, drop-of-length-le}
 use Rattle.text.specs.Bytes.{Bytes}
 use Rattle.text.specs.Characters.{letter, digit, letterOrDigit}
-use Rattle.rules.specs.Choice.{choose}
-use Rattle.rules.specs.Lexemes.{ampersand, apostrophe, opening, closing, Lex, byte, mark, ref, lone, byteOf, fieldStart, marked, Mode, inText, afterAmpersand, inSymbol, symbols, lexed, Inside, outside, enters, isBare}
+use Rattle.rules.specs.Lexemes.{ampersand, closing, Lex, byte, ref, lone, byteOf, fieldStart, marked, Mode, inText, afterAmpersand, inSymbol, symbols, lexed, Inside, outside, enters, isBare}
 use Rattle.rules.specs.Calls.{pairUp}
-use Rattle.rules.proofs.Choices.{by, either, chosen, passed-over}
+use Rattle.rules.proofs.Choices.{by, either}
 use Rattle.fields.specs.declared.Seen.{Seen as State}
 use Rattle.fields.specs.Seen.{beforeOf, insideOf, seenAfter, nothingSeen}
 use Rattle.fields.proofs.Scan.{before-after, inside-after}

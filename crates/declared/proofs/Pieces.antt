@@ -1,18 +1,16 @@
 -- A text's lexemes without marks, piece by piece: a byte, a pair of ampersands, a symbol, or an ampersand left over. Assumes nothing.
-use Prim.Native.Nat.{ℕ, zero, suc, _+_, _≤_, _<_}
-use native.Mathlib.Omega.{arith}
+use Prim.Native.Nat.{ℕ, suc, _+_}
 use mathlib.Core.Path.{_≡_, refl, ap, sym, _∙_, subst}
-use mathlib.Core.Bool.{Bool, true, false, false≢true, _&&_, _||_, not, and-false}
-use mathlib.Core.List.{List, [], _∷_, _++_, map, append-assoc, append-nil}
-use lib.Dec.{eqb, ltb}
-use lib.ListN.{length, getD, take, drop}
-use borrow.Author.Tests.{eqb-true, eq-eqb, ne-eqb}
+use mathlib.Core.Bool.{true, false, false≢true}
+use mathlib.Core.List.{[], _∷_, _++_, map, append-assoc, append-nil}
+use lib.Dec.{eqb}
+use lib.ListN.{getD, take, drop}
+use borrow.Author.Tests.{eqb-true}
 use Rattle.text.specs.Bytes.{Bytes}
-use Rattle.text.specs.Characters.{letter, digit, letterOrDigit}
+use Rattle.text.specs.Characters.{letter, letterOrDigit}
 use Rattle.rules.specs.Choice.{choose, run}
-use Rattle.rules.specs.Lexemes.{ampersand, Lex, byte, mark, ref, lone, byteOf, inText, afterAmpersand, inSymbol, symbols}
+use Rattle.rules.specs.Lexemes.{ampersand, byte, ref, lone, byteOf, inSymbol, symbols}
 use Rattle.rules.proofs.Choices.{by, chosen, passed-over}
-use Rattle.declared.specs.Declared.{startLength, startName, pieceLength, startsPlain}
 use Rattle.declared.proofs.Unmarked.{Lexes, textLexed}
 
 -- a letter is no ampersand

@@ -1,18 +1,18 @@
 -- What the piece that stands first in a text says of the text's symbols: the first of them, one that is too long, and whether there is any. Assumes nothing.
-use Prim.Native.Nat.{ℕ, zero, suc, _+_, _-_, _≤_, _<_}
+use Prim.Native.Nat.{ℕ, suc, _+_, _-_, _≤_, _<_}
 use native.Mathlib.Nat.{not-suc-le-zero, add-zero}
 use native.Mathlib.Omega.{arith}
 use mathlib.Core.Path.{_≡_, refl, ap, sym, _∙_}
-use mathlib.Core.Bool.{Bool, true, false, _&&_, _||_, not, and-false}
-use mathlib.Core.List.{List, [], _∷_, _++_}
+use mathlib.Core.Bool.{Bool, true, false, _&&_, _||_, not}
+use mathlib.Core.List.{[], _∷_}
 use lib.Dec.{eqb, ltb}
 use lib.ListN.{length, getD, take, drop, length-take, length-drop, drop-of-length-le}
 use lib.Seq.{take-all, drop-drop, getD-drop}
 use borrow.Author.Tests.{eqb-true, eqb-false, eq-eqb, ne-eqb, lt-ltb, le-ltb}
 use Rattle.text.specs.Bytes.{Bytes}
-use Rattle.text.specs.Characters.{letter, digit, letterOrDigit}
+use Rattle.text.specs.Characters.{letter, letterOrDigit}
 use Rattle.rules.specs.Choice.{choose, run, every, any}
-use Rattle.rules.specs.Lexemes.{ampersand, Lex, byte, ref, lone, inText, symbols, lexed, refsIn, isPlain, isLong}
+use Rattle.rules.specs.Lexemes.{ampersand, Lex, byte, ref, lone, symbols, lexed, refsIn, isPlain, isLong}
 use Rattle.rules.specs.Library.{startSymbol, isOneSymbol}
 use Rattle.rules.specs.Faults.{hasLongSymbol}
 use Rattle.rules.proofs.Choices.{by, either, chosen, passed-over}

@@ -1,7 +1,7 @@
 // What one part of an operand is: a variable symbol, a text that may stand as a default, a keyword with its default.
 ghost use mathlib.Core.Path.{_≡_};
 ghost use mathlib.Core.Bool.{Bool, true};
-ghost use Prim.Native.Nat.{_+_, _-_, _≤_, _<_};
+ghost use Prim.Native.Nat.{_+_, _-_, _<_};
 ghost use lib.ListN.{length, drop};
 ghost use Rattle.rules.specs.Choice.{every};
 ghost use Rattle.rules.specs.Lexemes.{lexed, isPlain, outside};

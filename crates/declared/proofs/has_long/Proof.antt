@@ -1,15 +1,12 @@
 -- `declared::has_long` meets its contract: the text from here on has a symbol that is too long if the whole has. Assumes nothing.
 use borrow.Author.Needs.{needs}
-use Prim.Native.Nat.{_+_, _-_, _≤_, _<_}
+use Prim.Native.Nat.{_-_, _≤_, _<_}
 use native.Mathlib.Omega.{arith}
-use mathlib.Core.Path.{_≡_, refl, ap, sym, _∙_}
-use mathlib.Core.Bool.{Bool, _||_}
-use lib.Dec.{ltb}
+use mathlib.Core.Path.{_≡_, refl, sym, _∙_}
 use lib.ListN.{length, drop}
 use Rattle.rules.specs.Faults.{hasLongSymbol}
-use Rattle.declared.specs.Declared.{startLength}
 use Rattle.declared.proofs.Unmarked.{textLexed, long-by-text}
-use Rattle.declared.proofs.Starts.{part-all, further, long-found, long-further, long-end}
+use Rattle.declared.proofs.Starts.{further, long-found, long-further, long-end}
 use Rattle.declared.proofs.has_long.Statement.{statement}
 use Rattle.declared.proofs.has_long.Tie as tie
 

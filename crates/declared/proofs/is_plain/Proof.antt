@@ -1,8 +1,8 @@
 -- `declared::is_plain` meets its contract: the text from here on is plain if the whole is. Assumes nothing.
 use borrow.Author.Needs.{needs}
-use Prim.Native.Nat.{_+_, _-_, _≤_, _<_}
+use Prim.Native.Nat.{_-_, _≤_, _<_}
 use native.Mathlib.Omega.{arith}
-use mathlib.Core.Path.{_≡_, refl, ap, sym, _∙_}
+use mathlib.Core.Path.{_≡_, refl, sym, _∙_}
 use lib.ListN.{length, drop}
 use Rattle.rules.specs.Choice.{every}
 use Rattle.rules.specs.Lexemes.{isPlain}

@@ -1,7 +1,7 @@
 use borrow.Author.Needs.{needs}
 use native.Mathlib.Omega.{arith}
-use mathlib.Core.Path.{_≡_, ap, sym, _∙_}
-use lib.ListN.{length, take, drop, length-drop}
+use mathlib.Core.Path.{ap, _∙_}
+use lib.ListN.{drop, length-drop}
 use Rattle.declared.specs.Declared.{startLength}
 use Rattle.declared.proofs.Starts.{part-all, start-inside, pair-length, other-length}
 use Rattle.declared.proofs.piece_length.Statement.{statement}

@@ -1,5 +1,4 @@
 use borrow.Author.Needs.{needs}
-use mathlib.Core.Path.{_≡_, sym, _∙_}
 use Rattle.declared.proofs.Starts.{start-named, start-unnamed}
 use Rattle.declared.proofs.start_length.Statement.{statement}
 use Rattle.declared.proofs.start_length.Tie as tie
