@@ -29,7 +29,7 @@ pub fn is_mark(second: u8, first: u8, quoted: bool, c: u8, next: u8) -> bool
 }
 
 // Where the letters and digits from `at` on end.
-fn symbol_end(field: &[u8], at: usize) -> usize
+pub fn symbol_end(field: &[u8], at: usize) -> usize
     ensures { λ r. ⌜ r ≡ symbolEnd (now (field .entry)) at ⌝ }
     ensures { λ r. ⌜ (at ≤ r) × (r ≤ at + (length (now (field .entry)) - at)) ⌝ }
 {

@@ -1,5 +1,5 @@
 -- A scan that passes over lexemes and stops at none of them; reading symbols leaves such a scan as it is. Assumes nothing.
-use Prim.Native.Nat.{ℕ, zero, suc, pred, _+_}
+use Prim.Native.Nat.{ℕ, suc, pred, _+_}
 use native.Mathlib.Omega.{arith}
 use mathlib.Core.Path.{_≡_, refl, ap, sym, _∙_, subst}
 use mathlib.Core.Bool.{Bool, true, false, false≢true, _&&_, not}
@@ -10,14 +10,14 @@ use borrow.Author.Tests.{eqb-true}
 use Rattle.text.specs.Bytes.{Bytes}
 use Rattle.text.specs.Characters.{letter, digit, letterOrDigit}
 use Rattle.rules.specs.Choice.{choose, passed}
-use Rattle.rules.specs.Lexemes.{ampersand, apostrophe, opening, closing, Lex, byte, mark, ref, lone, byteOf, Mode, inText, afterAmpersand, inSymbol, symbols, Inside, enters, isBare}
+use Rattle.rules.specs.Lexemes.{ampersand, apostrophe, opening, closing, Lex, byte, ref, lone, byteOf, Mode, inText, afterAmpersand, inSymbol, symbols, Inside, enters, isBare}
 use Rattle.rules.proofs.Choices.{by, either, chosen, passed-over}
 
 abbrev pub Lexes : Type 0
 Lexes = List (Lex Bytes)
 
 -- a byte that passes a test which d does not is not d
-not-by : (test : ℕ → Bool) (d : ℕ) → test d ≡ false → (k : ℕ) → test k ≡ true → eqb k d ≡ false
+pub not-by : (test : ℕ → Bool) (d : ℕ) → test d ≡ false → (k : ℕ) → test k ≡ true → eqb k d ≡ false
 not-by test d f k t = by (eqb k d) (λ e. absurd (false≢true (sym (ap test (eqb-true k d e) ∙ f) ∙ t))) (λ e. e)
 
 -- a lexeme that opens and closes nothing

@@ -1,23 +1,21 @@
 -- A text cut at its first bare delimiter: the lexemes of the whole are those of the part before it, the delimiter, and those of the text behind it. At a bare delimiter no
 -- symbol and no quote is open, and what stands behind it is read as from a field's start. Assumes nothing.
-use Prim.Native.Nat.{ℕ, zero, suc, _+_, _≤_, _<_}
+use Prim.Native.Nat.{ℕ, suc, _+_, _≤_, _<_}
 use native.Mathlib.Nat.{not-suc-le-zero, le-of-suc-le-suc}
 use native.Mathlib.Omega.{arith}
 use mathlib.Core.Path.{_≡_, refl, ap, sym, _∙_, subst}
 use mathlib.Core.Bool.{Bool, true, false, false≢true, true≢false, _&&_, _||_, not, and-false}
-use mathlib.Core.List.{List, [], _∷_, _++_, append-nil}
+use mathlib.Core.List.{[], _∷_, _++_, append-nil}
 use lib.Dec.{eqb, ltb}
-use lib.ListN.{length, take, drop, length-append}
-use lib.Seq.{take-all, take-nil, take-append-seam, drop-append-add}
-use borrow.Author.Tests.{eqb-true, eqb-false, eq-eqb, ne-eqb, ltb-true, ltb-false, lt-ltb, le-ltb}
+use lib.ListN.{length, take, drop}
+use lib.Seq.{take-all}
+use borrow.Author.Tests.{eqb-true, eqb-false, eq-eqb, ne-eqb, ltb-true, ltb-false}
 use Rattle.text.specs.Bytes.{Bytes, bytes, member}
 use Rattle.text.specs.Characters.{letter, digit, letterOrDigit}
 use Rattle.rules.specs.Choice.{choose, passed}
-use Rattle.rules.specs.Lexemes.{space, ampersand, apostrophe, comma, equals, Lex, byte, mark, byteOf, Before, fieldStart, follows, isMark, after, marked, inText, symbols, lexed, unlexed, Inside, outside, enters, isBare}
-use Rattle.rules.specs.Calls.{equalsAt, hasEquals}
+use Rattle.rules.specs.Lexemes.{space, ampersand, apostrophe, comma, equals, Lex, byte, mark, byteOf, Before, fieldStart, follows, isMark, after, marked, inText, symbols, lexed, Inside, outside, enters, isBare}
 use Rattle.rules.proofs.Choices.{by, either, chosen, passed-over, and-left, and-right}
 use Rattle.rules.proofs.Defaults.{mark-same, after-same}
-use Rattle.rules.proofs.Lossless.{lexed-back}
 use Rattle.parts.specs.Parts.{bareAt}
 use Rattle.parts.proofs.Clear.{Lexes, Clear, clear-passed, clear-symbols, symbols-cut}
 

@@ -2,16 +2,16 @@
 use Prim.Native.Nat.{ℕ, zero, suc, _+_, _-_, _≤_, _<_}
 use native.Mathlib.Nat.{not-suc-le-zero}
 use native.Mathlib.Omega.{arith}
-use mathlib.Core.Path.{_≡_, refl, ap, sym, _∙_, subst}
-use mathlib.Core.Bool.{Bool, true, false}
+use mathlib.Core.Path.{_≡_, refl, ap, sym, _∙_}
+use mathlib.Core.Bool.{true}
 use mathlib.Core.List.{List, [], _∷_, _++_, map}
-use lib.Dec.{leb, ltb}
+use lib.Dec.{ltb}
 use lib.ListN.{length, take, drop, length-drop}
 use lib.Seq.{take-all, drop-drop}
 use borrow.Author.Tests.{ltb-true, ltb-false, lt-ltb, le-ltb, le-leb, lt-leb}
 use Rattle.text.specs.Bytes.{Bytes}
-use Rattle.rules.specs.Choice.{choose, onFirst}
-use Rattle.rules.specs.Lexemes.{comma, Lex, byte, fieldStart, marked, inText, symbols, lexed, unlexed, Inside, outside, enters, isBare}
+use Rattle.rules.specs.Choice.{onFirst}
+use Rattle.rules.specs.Lexemes.{comma, byte, marked, symbols, lexed, unlexed, Inside, outside, enters, isBare}
 use Rattle.rules.specs.Fields.{isEmpty}
 use Rattle.rules.specs.Calls.{parts, divided}
 use Rattle.rules.proofs.Choices.{by, chosen, passed-over}

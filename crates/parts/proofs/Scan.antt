@@ -1,20 +1,20 @@
 -- The scan for a byte outside quotes and parentheses, by its state, is the definition's. Assumes nothing.
-use Prim.Native.Nat.{ℕ, zero, suc, _+_, _≤_, _<_}
+use Prim.Native.Nat.{ℕ, suc, _+_, _≤_, _<_}
 use native.Mathlib.Numerals.{add-one}
 use native.Mathlib.Omega.{arith}
 use mathlib.Core.Path.{_≡_, refl, ap, sym, _∙_}
 use mathlib.Core.Bool.{Bool, true, false, _&&_, _||_, not}
-use mathlib.Core.List.{List, [], _∷_}
+use mathlib.Core.List.{_∷_}
 use lib.Dec.{eqb}
 use lib.ListN.{length, getD, drop, drop-of-length-le}
 use lib.Seq.{drop-cons}
 use borrow.Author.Tests.{eqb-true, eqb-false, eq-eqb, ne-eqb}
 use Rattle.text.specs.Bytes.{Bytes}
 use Rattle.rules.specs.Choice.{choose, passed}
-use Rattle.rules.specs.Lexemes.{Lex, byte, mark, byteOf, isMark, after, marked, Inside, enters, isBare}
+use Rattle.rules.specs.Lexemes.{Lex, byte, mark, byteOf, isMark, after, marked, enters, isBare}
 use Rattle.rules.proofs.Choices.{by, chosen, passed-over}
 use Rattle.fields.specs.declared.Seen.{Seen as State}
-use Rattle.fields.specs.Seen.{beforeOf, insideOf, marks, seenAfter}
+use Rattle.fields.specs.Seen.{beforeOf, insideOf, seenAfter}
 use Rattle.fields.proofs.Scan.{marks-is, before-after, inside-after}
 use Rattle.parts.specs.Parts.{bareHere}
 

@@ -1,16 +1,16 @@
 -- What the cut of a text at its first bare delimiter tells of its lexemes: what stands before the delimiter and behind it, and whether there is one. Assumes nothing.
-use Prim.Native.Nat.{ℕ, zero, suc, _+_, _≤_, _<_}
+use Prim.Native.Nat.{ℕ, suc, _+_, _<_}
 use native.Mathlib.Omega.{arith}
-use mathlib.Core.Path.{_≡_, refl, ap, sym, _∙_}
-use mathlib.Core.Bool.{Bool, true, false}
-use mathlib.Core.List.{List, [], _∷_, _++_}
+use mathlib.Core.Path.{_≡_, ap, sym, _∙_}
+use mathlib.Core.Bool.{true}
+use mathlib.Core.List.{_∷_, _++_}
 use lib.Dec.{ltb}
 use lib.ListN.{length, take, drop, length-append}
 use lib.Seq.{take-length, take-append-seam, drop-append-add}
 use borrow.Author.Tests.{ltb-true, ltb-false, lt-ltb, le-ltb}
 use Rattle.text.specs.Bytes.{Bytes}
 use Rattle.rules.specs.Choice.{passed}
-use Rattle.rules.specs.Lexemes.{equals, Lex, byte, lexed, unlexed, outside, enters, isBare}
+use Rattle.rules.specs.Lexemes.{equals, byte, lexed, unlexed, outside, enters, isBare}
 use Rattle.rules.specs.Calls.{equalsAt, hasEquals}
 use Rattle.rules.specs.Faults.{beforeEquals}
 use Rattle.rules.proofs.Choices.{by}
@@ -66,9 +66,9 @@ module _ (s : Bytes) where
   unfolding hasEquals equalsAt
   has-equals-is = found-is equals equals-is s
 
-  pub default-is : bareAt equals s < length s → drop (suc (equalsAt (lexed true s))) (lexed true s) ≡ lexed true (drop (suc (bareAt equals s)) s)
+  pub default-cut : bareAt equals s < length s → drop (suc (equalsAt (lexed true s))) (lexed true s) ≡ lexed true (drop (suc (bareAt equals s)) s)
   unfolding equalsAt
-  default-is h = back-is equals equals-is s h
+  default-cut h = back-is equals equals-is s h
 
   pub default-bytes : bareAt equals s < length s → unlexed (drop (suc (equalsAt (lexed true s))) (lexed true s)) ≡ drop (suc (bareAt equals s)) s
-  default-bytes h = ap unlexed (default-is h) ∙ lexed-back true (drop (suc (bareAt equals s)) s)
+  default-bytes h = ap unlexed (default-cut h) ∙ lexed-back true (drop (suc (bareAt equals s)) s)

@@ -1,12 +1,12 @@
 -- Where a text is cut at a byte outside quotes and parentheses, and its parts between commas, by bytes. That these are 01's parts is proofs/. Assumes nothing.
-use Prim.Native.Nat.{ℕ, zero, suc, _+_}
-use mathlib.Core.Bool.{Bool, true, false, _&&_, _||_, not}
+use Prim.Native.Nat.{ℕ, zero, suc}
+use mathlib.Core.Bool.{Bool, true, _&&_, _||_, not}
 use mathlib.Core.List.{List, [], _∷_}
 use lib.Dec.{eqb, leb, ltb}
 use lib.ListN.{length, take, drop}
 use Rattle.text.specs.Bytes.{Bytes}
 use Rattle.rules.specs.Choice.{choose, passed}
-use Rattle.rules.specs.Lexemes.{comma, Lex, fieldStart, marked, outside, enters, isBare}
+use Rattle.rules.specs.Lexemes.{comma, fieldStart, marked, outside, enters, isBare}
 use Rattle.rules.specs.Fields.{isEmpty}
 use Rattle.fields.specs.declared.Seen.{Seen as State}
 use Rattle.fields.specs.Seen.{marks}

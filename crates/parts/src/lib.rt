@@ -5,7 +5,7 @@ ghost use lib.ListN.{length, drop};
 ghost use Rattle.parts.specs.Parts.{bareHere, bareAt};
 
 // Whether the byte `d`, which `next` follows (0 if nothing does), is the text byte `c` outside quotes and parentheses.
-fn is_bare(seen: fields::Seen, d: u8, next: u8, c: u8) -> bool
+pub fn is_bare(seen: fields::Seen, d: u8, next: u8, c: u8) -> bool
     ensures { λ r. ⌜ r ≡ bareHere c seen d next ⌝ }
 {
     let quoted = seen.quoted;
