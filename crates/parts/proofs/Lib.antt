@@ -3,3 +3,4 @@ pub mod Clear
 pub mod Cut
 pub mod Told
 pub mod Divided
+pub mod Worked
