@@ -173,6 +173,7 @@ fn pair_at(code: &[u8]) -> usize
 }
 
 // Where AIF's condition ends: behind the `)` that pairs with the `(` at its start; 0 where it does not start with one.
+// Where nothing pairs it is one more than the field's length.
 pub fn condition_end(code: &[u8]) -> usize
     ensures { λ r. ⌜ ((kinds : Bytes) → r ≡ conditionEnd (toksAt kinds (now (code .entry)) 0)) ⌝ }
 {
