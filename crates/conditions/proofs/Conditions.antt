@@ -3,33 +3,30 @@ use mathlib.Core.Path.{_≡_, refl, sym, ap, _∙_, subst}
 use mathlib.Core.Bool.{Bool, true, false, _||_, _&&_, true≢false}
 use mathlib.Core.List.{List, [], _∷_}
 use mathlib.Core.Option.{Option, none, some}
-use Prim.Native.Nat.{ℕ, zero, suc, _+_, _-_, _<_, _≤_}
+use Prim.Native.Nat.{ℕ, zero, suc, _-_, _<_, _≤_}
 use native.Mathlib.Omega.{arith}
 use native.Mathlib.Nat.{le-refl, le-trans}
 use native.Mathlib.Numerals.{sub-one}
 use lib.Dec.{eqb, lit<}
 use lib.ListN.{length, drop}
 use borrow.Author.Tests.{eq-eqb, ne-eqb, eqb-true, eqb-false}
-use Rattle.text.specs.Bytes.{Bytes, bytes}
+use Rattle.text.specs.Bytes.{bytes}
 use Rattle.rules.specs.Choice.{choose, run}
-use Rattle.rules.specs.Lexemes.{Lex, byte, mark, ref, lone, byteOf, opening, closing, apostrophe, space}
+use Rattle.rules.specs.Lexemes.{Lex, byte, mark, ref, lone, byteOf, opening, apostrophe, space}
 use Rattle.rules.specs.Fields.{isEmpty}
-use Rattle.rules.specs.Statement.{Set, setA, setB, setC}
-use Rattle.rules.specs.Values.{Relation}
-use Rattle.rules.specs.Grammar.{Kind, parameter, symbol, syslist, sysndx, sysect, unknown, Got, got, refused, Reference, plain, rest, isAttribute, pastSpaces, wordAt, isWord, relationAt, then, broken, given, closed, inText, afterT}
+use Rattle.rules.specs.Statement.{setA, setB, setC}
+use Rattle.rules.specs.Grammar.{Kind, parameter, symbol, syslist, sysndx, sysect, unknown, Got, got, Reference, plain, rest, isAttribute, pastSpaces, wordAt, isWord, then, broken, given, closed, inText}
 use Rattle.rules.specs.Grammar.{subscripts, reference, referred, deeper, arithmetic, stringWithin, comparedStrings, isDigitAlone, constantAt, comparedNumbers, isFlag, element, spaced, negation, conjunction, disjunction, deeperCondition, condition}
 use Rattle.rules.specs.Form.{Nothing, form}
 use Rattle.rules.proofs.Choices.{by, either, chosen, passed-over}
-use Rattle.grammar.specs.declared.Formed.{Formed}
-use Rattle.grammar.specs.declared.Formed.the-variants.{At, Broken, Deep}
-use Rattle.grammar.specs.Tokens.{toksAt, tells}
+use Rattle.grammar.specs.declared.Formed.the-variants.{Deep}
+use Rattle.grammar.specs.Tokens.{tells}
 use Rattle.grammar.specs.Kinds.{numberOf, lexNumber, kindNumber, tableOf}
-use Rattle.grammar.specs.Operands.{stringsBy}
 use Rattle.grammar.proofs.Chains.{left, left-then, Forward, drop-less, then-same, Chained, chained, forward-chain}
-use Rattle.grammar.proofs.Rules.{Few, up, got-left, broken-left, left-closed, left-opened, forward-referred, forward-deeper, sums-of, sum-of}
+use Rattle.grammar.proofs.Rules.{Few, got-left, broken-left, left-closed, left-opened, forward-referred, forward-deeper, sums-of, sum-of}
 use Rattle.grammar.proofs.Quotes.{parts-of, strings-of, characters-type, characters-strings}
 use Rattle.conditions.specs.Words.{isRelation}
-use Rattle.conditions.proofs.Words.{Related, relation-some, relation-none}
+use Rattle.conditions.proofs.Words.{relation-some, relation-none}
 
 -- what depends on whether there is a value
 module _ {A D : Type 0} (f : A) (k : D → A) where

@@ -37,7 +37,7 @@ module _ (kinds code : Bytes) where
   unfolding toksAt
   toks-end at h = rw (drop-of-length-le code h)
 
-  toks-step : (at : ℕ) → at < length code → toksAt kinds code at ≡ lexOf kinds (getD code at 0) ∷ toksAt kinds code (at + 1)
+  pub toks-step : (at : ℕ) → at < length code → toksAt kinds code at ≡ lexOf kinds (getD code at 0) ∷ toksAt kinds code (at + 1)
   unfolding toksAt
   toks-step at h = rw (add-one at, drop-cons code at 0 h)
 

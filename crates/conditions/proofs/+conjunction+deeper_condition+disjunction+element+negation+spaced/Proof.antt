@@ -1,6 +1,6 @@
 -- Conditions, whose rules call each other. The measure is six for each level of nesting that remains, with the rules of a level in the order of
 -- their calls: disjunction, conjunction, negation, spaced, element, deeper_condition. Assumes nothing.
-use mathlib.Core.Path.{_≡_, refl, sym, ap, _∙_}
+use mathlib.Core.Path.{sym, ap, _∙_}
 use mathlib.Core.List.{[]}
 use native.Mathlib.Omega.{arith}
 use borrow.Author.Needs.{needs}

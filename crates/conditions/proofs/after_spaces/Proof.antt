@@ -1,4 +1,4 @@
-use mathlib.Core.Path.{_≡_, refl, sym, ap, _∙_}
+use mathlib.Core.Path.{sym, ap, _∙_}
 use Rattle.rules.specs.Grammar.{got}
 use Rattle.grammar.proofs.Answers.{tells-at, then-at, then-broken, then-deep}
 use borrow.Author.Needs.{needs}

@@ -1,4 +1,3 @@
-use mathlib.Core.Path.{_≡_, refl, sym, ap, _∙_}
 use Rattle.conditions.proofs.Words.{one-between, none-between}
 use borrow.Author.Needs.{needs}
 use Rattle.conditions.proofs.alone.Statement.{statement}

@@ -1,9 +1,8 @@
 use borrow.Author.Tests.{not-true, not-false}
-use mathlib.Core.Path.{_≡_, refl, sym, ap, _∙_}
+use mathlib.Core.Path.{sym, ap, _∙_}
 use native.Mathlib.Omega.{arith}
 use mathlib.Core.List.{[]}
 use Rattle.rules.specs.Grammar.{pastSpaces, arithmetic}
-use Rattle.rules.specs.Form.{form}
 use Rattle.grammar.proofs.Places.{toks-drop}
 use Rattle.grammar.proofs.Answers.{tells-broken}
 use Rattle.conditions.proofs.Words.{relation-inside}

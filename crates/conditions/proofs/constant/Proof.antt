@@ -1,4 +1,4 @@
-use mathlib.Core.Path.{_≡_, refl, sym, ap, _∙_}
+use mathlib.Core.Path.{_∙_}
 use Rattle.grammar.proofs.Answers.{tells-at, tells-broken}
 use Rattle.conditions.proofs.Conditions.{constant-is, constant-none}
 use borrow.Author.Needs.{needs}

@@ -1,4 +1,4 @@
-use mathlib.Core.Path.{_≡_, refl, sym, ap, _∙_}
+use mathlib.Core.Path.{sym, ap, _∙_}
 use Rattle.rules.specs.Grammar.{then, comparedNumbers}
 use Rattle.rules.specs.Form.{form}
 use Rattle.grammar.specs.Tokens.{toksAt}

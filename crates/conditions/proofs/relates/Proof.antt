@@ -1,8 +1,7 @@
-use mathlib.Core.Path.{_≡_, refl, sym, ap, _∙_}
+use mathlib.Core.Path.{refl}
 use Rattle.text.specs.Characters.{letterOrDigit, letter, digit}
 use mathlib.Core.Bool.{_||_}
 use Rattle.conditions.specs.Words.{isRelation}
-use borrow.Author.Needs.{needs}
 use Rattle.conditions.proofs.relates.Statement.{statement}
 use Rattle.conditions.proofs.relates.Tie as tie
 
