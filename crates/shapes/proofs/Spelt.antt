@@ -19,7 +19,7 @@ use Rattle.rules.proofs.ReadLines.{InSet, Holds}
 use Rattle.rules.proofs.Lossless.{lexed-back}
 use Rattle.coding.specs.Coded.{codeBy}
 use Rattle.grammar.specs.Tokens.{toksAt}
-use Rattle.shapes.specs.Does.{doesNumber}
+use Rattle.forms.specs.Numbers.{doesNumber}
 use Rattle.shapes.specs.declared.Codes.{Codes as Ends}
 use Rattle.shapes.specs.declared.Shape.{Shape as Kept}
 use Rattle.shapes.specs.Shapes.{part, endsOf, isPlainCode, keepsNone, keepsOperand, branching, branchingIf, modelling, shapeOf, targetText, Spelt}

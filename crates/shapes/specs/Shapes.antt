@@ -15,7 +15,7 @@ use Rattle.rules.specs.Faults.{targetBehind}
 use Rattle.deck.specs.Coders.{passesCode, endsCode, exitsCode, textCode, modelsCode, branchesIfCode, branchesCode, countsCode, setsCode, setCode, ownCode}
 use Rattle.coding.specs.Coded.{codeBy}
 use Rattle.grammar.specs.Tokens.{toksAt}
-use Rattle.shapes.specs.Does.{doesNumber}
+use Rattle.forms.specs.Numbers.{doesNumber}
 use Rattle.shapes.specs.declared.Codes.{Codes as Ends}
 use Rattle.shapes.specs.declared.Shape.{Shape as Kept}
 

@@ -154,3 +154,41 @@ pub fn code_fields(
         operand: third,
     }
 }
+
+// A statement's shape, by the number of its word: `label` says that its name is a sequence symbol, `code` has the codes of its three fields.
+pub fn shape_of(word: usize, label: bool, codes: Codes, code: &[u8]) -> Shape
+    requires { ⌜ (codes .operation ≤ codes .operand) × (codes .operand ≤ length (now code)) ⌝ }
+    ensures { λ r. ⌜ r ≡ shapeOf (getD statements word model) label codes (now (code .entry)) ⌝ }
+{
+    if word == 1 {
+        return keeps_none(1, codes);
+    }
+    if word == 2 {
+        return keeps_none(2, codes);
+    }
+    if word < 9 {
+        return keeps_none(0, codes);
+    }
+    if word < 12 {
+        return keeps_operand((word - 1) as u8, codes.name, codes);
+    }
+    if word == 12 {
+        let from = codes.operation;
+        let to = codes.operand;
+        return branching_if(forms::condition_end(&code[from..to]), codes);
+    }
+    if word == 13 {
+        return branching(codes);
+    }
+    if word == 14 {
+        return keeps_none(0, codes);
+    }
+    if word == 15 {
+        return keeps_operand(7, 0, codes);
+    }
+    let plain = is_plain(code);
+    if plain & !label {
+        return keeps_none(3, codes);
+    }
+    modelling(label, codes)
+}
