@@ -1,12 +1,13 @@
 -- What an operand declares, and what tables say of names that are declared already. Assumes nothing.
 use Prim.Native.Nat.{ℕ}
-use mathlib.Core.Bool.{Bool, true}
+use mathlib.Core.Bool.{Bool, true, _||_, not}
 use mathlib.Core.List.{List, [], _∷_, _++_}
 use lib.Dec.{eqb}
 use lib.ListN.{getD, drop}
-use Rattle.text.specs.Bytes.{Bytes, same}
+use Rattle.text.specs.Bytes.{Bytes, bytes, same}
 use Rattle.rules.specs.Choice.{choose, any}
 use Rattle.rules.specs.Lexemes.{lexed}
+use Rattle.rules.specs.Fields.{startsWith}
 use Rattle.rules.specs.Statement.{Set, setA, setB, setC}
 use Rattle.rules.specs.Calls.{divided}
 use Rattle.rules.specs.Library.{startSymbols}
@@ -19,6 +20,14 @@ symbolsIn operand = startSymbols (divided (lexed true operand))
 -- a name that a macro has declared, by the tables of its own names and of its GBL statements' names
 unfoldable pub isTaken : Bytes → Bytes → Bytes → Bool
 isTaken own global n = any (same n) (namesIn own ++ namesIn global)
+
+-- a symbol that may not be declared: it begins SYS, was declared before, or is declared again
+abbrev pub isWrong : (Bytes → Bool) → List Bytes → Bytes → Bool
+isWrong before later n = startsWith (bytes "SYS") n || (before n || any (same n) later)
+
+-- a symbol that is none of these
+abbrev pub isNew : List Bytes → Bytes → Bool
+isNew names n = not (any (same n) names)
 
 -- a SET symbol's kind, as tables have it
 unfoldable pub setNumbered : ℕ → Set

@@ -41,7 +41,7 @@ module _ (s : Bytes) where
   unfolding restFrom
   rest-there at h = ap (map (lexed true)) (parts-there s at h)
 
-any-append : {A : Type 0} (test : A → Bool) (s t : List A) → any test (s ++ t) ≡ (any test s || any test t)
+pub any-append : {A : Type 0} (test : A → Bool) (s t : List A) → any test (s ++ t) ≡ (any test s || any test t)
 unfolding any
 any-append test [] t = refl
 any-append test (a ∷ s) t = go (test a) (any test s) (any test t) (any-append test s t)
@@ -58,7 +58,7 @@ module _ (s : Bytes) (at end : ℕ) (h : at ≤ length s) (e : end ≡ at + bare
   abbrev others : List Lexes
   others = restFrom s (end + 1)
 
-  rest-on : restFrom s at ≡ part ∷ others
+  pub rest-on : restFrom s at ≡ part ∷ others
   unfolding restFrom
   rest-on = ap (map (lexed true)) (parts-on s at end h e)
 
