@@ -1,0 +1,3 @@
+pub mod Symbols
+pub mod Rows
+pub mod Adding
