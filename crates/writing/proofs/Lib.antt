@@ -1,0 +1,4 @@
+pub mod Writes
+pub mod Parts
+pub mod Coded
+pub mod Lines
