@@ -1,16 +1,15 @@
 -- What stands at a place of a batch: one law for each return of the functions that read it, and where the places of a case lie. Assumes nothing.
-use Prim.Native.Nat.{ℕ, suc, _+_, _-_, _≤_, _<_}
+use Prim.Native.Nat.{ℕ, _+_, _-_, _≤_, _<_}
 use native.Mathlib.Omega.{arith}
-use mathlib.Core.Path.{_≡_, refl, ap, sym, _∙_, subst}
+use mathlib.Core.Path.{_≡_, ap, sym, _∙_}
 use mathlib.Core.Bool.{Bool, true, false}
-use mathlib.Core.List.{[], _∷_}
-use lib.Dec.{eqb, leb, ltb}
+use lib.Dec.{eqb}
 use lib.ListN.{length, take, drop, getD, length-drop, length-take}
-use borrow.Author.Tests.{eq-eqb, ne-eqb, eqb-true, eqb-false, lt-ltb, le-ltb, ltb-true, ltb-false, le-leb, lt-leb, leb-true, leb-false}
+use borrow.Author.Tests.{eq-eqb, ne-eqb, lt-ltb, le-ltb, le-leb, lt-leb}
 use Rattle.text.specs.Bytes.{Bytes, bytes, same}
 use Rattle.text.proofs.Same.{shorter}
-use Rattle.rules.specs.Choice.{choose, run}
-use Rattle.rules.proofs.Choices.{chosen, passed-over, either}
+use Rattle.rules.specs.Choice.{choose}
+use Rattle.rules.proofs.Choices.{chosen, passed-over}
 use Rattle.batch.specs.declared.Number.{Number}
 use Rattle.batch.specs.declared.Number.the-variants.{Is, Not}
 use Rattle.batch.specs.declared.Pair.{Pair}
@@ -18,7 +17,7 @@ use Rattle.batch.specs.declared.Pair.the-variants.{Both, Neither}
 use Rattle.batch.specs.declared.Case.{Case}
 use Rattle.batch.specs.declared.Case.the-variants.{Found, End, Broken}
 use Rattle.batch.specs.Format.{space, newline, idEnd, numberAt, secondTo, thenSecond, pairAt, laidOut, withRooms, withSizes, headed, caseAt}
-use Rattle.batch.proofs.Numbers.{read-inside, Ahead, number-ahead}
+use Rattle.batch.proofs.Numbers.{Ahead, number-ahead}
 
 -- ---- two numbers
 

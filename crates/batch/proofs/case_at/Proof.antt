@@ -1,9 +1,7 @@
 -- `batch::case_at` meets its contract. Assumes nothing.
 use borrow.Author.Needs.{needs}
-use Prim.Native.Nat.{_+_, _<_}
 use native.Mathlib.Omega.{arith}
-use mathlib.Core.Path.{_≡_, sym, _∙_}
-use lib.ListN.{length}
+use mathlib.Core.Path.{sym, _∙_}
 use borrow.Author.Tests.{not-true, not-false}
 use Rattle.batch.proofs.Numbers.{read-inside}
 use Rattle.batch.proofs.Cases.{at-end, other-word, short-word, no-id, no-space, has-head, word-read}

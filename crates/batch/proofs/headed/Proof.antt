@@ -1,7 +1,7 @@
 -- `batch::headed` meets its contract. Assumes nothing.
 use borrow.Author.Needs.{needs}
 use native.Mathlib.Omega.{arith}
-use mathlib.Core.Path.{_≡_, sym, subst, _∙_}
+use mathlib.Core.Path.{sym, subst, _∙_}
 use Rattle.batch.proofs.Cases.{headed-laid, headed-no-rooms, headed-no-sizes, AheadBoth, pair-ahead}
 use Rattle.batch.proofs.headed.Statement.{statement}
 use Rattle.batch.proofs.headed.Tie as tie

@@ -1,9 +1,9 @@
 -- `batch::laid_out` meets its contract. Assumes nothing.
 use borrow.Author.Needs.{needs}
-use Prim.Native.Nat.{_+_, _-_, _≤_, _<_}
+use Prim.Native.Nat.{_+_, _<_}
 use native.Mathlib.Omega.{arith}
-use mathlib.Core.Path.{_≡_, refl, sym, _∙_}
-use lib.ListN.{length, getD}
+use mathlib.Core.Path.{sym, _∙_}
+use lib.ListN.{length}
 use Rattle.batch.proofs.Numbers.{read-inside}
 use Rattle.batch.proofs.Cases.{laid-short, laid-short-program, laid-unended, laid-found}
 use Rattle.batch.proofs.laid_out.Statement.{statement}

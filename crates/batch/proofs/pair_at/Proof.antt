@@ -1,7 +1,6 @@
 -- `batch::pair_at` meets its contract. Assumes nothing.
 use borrow.Author.Needs.{needs}
-use native.Mathlib.Omega.{arith}
-use mathlib.Core.Path.{_≡_, sym, _∙_}
+use mathlib.Core.Path.{sym, _∙_}
 use Rattle.batch.proofs.Cases.{pair-both, pair-one, pair-none}
 use Rattle.batch.proofs.pair_at.Statement.{statement}
 use Rattle.batch.proofs.pair_at.Tie as tie
