@@ -1,0 +1,7 @@
+pub mod Words
+pub mod Placed
+pub mod Around
+pub mod Symbols
+pub mod Formed
+pub mod Counted
+pub mod Bodies
