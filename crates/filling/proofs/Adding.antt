@@ -1,9 +1,9 @@
 -- Tables of the library's globals with a name more, and with one name after another. Assumes nothing.
-use Prim.Native.Nat.{ℕ, zero, suc, _+_, _*_, _-_, _≤_, _<_}
+use Prim.Native.Nat.{ℕ, suc, _+_, _*_, _-_, _≤_, _<_}
 use native.Mathlib.Nat.{not-suc-le-zero, le-of-suc-le-suc, sub-zero}
 use native.Mathlib.Numerals.{add-one}
 use native.Mathlib.Omega.{arith}
-use mathlib.Core.Path.{_≡_, refl, ap, sym, _∙_, subst}
+use mathlib.Core.Path.{_≡_, refl, ap, sym, _∙_}
 use mathlib.Core.Bool.{Bool, true, false, _||_}
 use mathlib.Core.List.{List, [], _∷_, _++_, map, map-append}
 use lib.ListN.{length, take, drop, set, length-append, length-drop}
@@ -16,16 +16,14 @@ use Rattle.rules.specs.Grammar.{symbol}
 use Rattle.rules.specs.Calls.{isAmong}
 use Rattle.rules.specs.Library.{ofKind, firsts, withGlobals}
 use Rattle.rules.proofs.Choices.{chosen, passed-over}
-use Rattle.rules.proofs.Symbols.{firsts-append, length-firsts}
+use Rattle.rules.proofs.Symbols.{firsts-append}
+use Rattle.rules.proofs.OneKind.{Globals}
 use Rattle.deck.specs.Coders.{setCode}
 use Rattle.lent.specs.Splice.{splice}
 use Rattle.names.specs.Names.{namesIn}
 use Rattle.grammar.specs.Kinds.{numberOf}
 use Rattle.tables.proofs.Grown.{declared-names}
 use Rattle.filling.specs.Added.{number, Added, Adds}
-
-abbrev Globals : Type 0
-Globals = List (Bytes × Set)
 
 -- ---- a name among globals, by its place
 

@@ -1,3 +1,6 @@
 pub mod Symbols
 pub mod Rows
 pub mod Adding
+pub mod Lines
+pub mod Prototypes
+pub mod Counts

@@ -2,16 +2,16 @@
 use Prim.Native.Nat.{ℕ, _+_, _-_, _≤_, _<_}
 use native.Mathlib.Omega.{arith}
 use mathlib.Core.Path.{_≡_, refl, ap, sym, _∙_}
-use mathlib.Core.Bool.{Bool, true, false}
+use mathlib.Core.Bool.{true, false}
 use mathlib.Core.List.{List, [], _∷_, _++_, map}
 use lib.ListN.{length, take, drop, length-take}
 use lib.Dec.{eqb}
 use borrow.Author.Tests.{eq-eqb, ne-eqb, eqb-true, eqb-false, ltb-false}
 use Rattle.text.specs.Bytes.{Bytes}
-use Rattle.rules.specs.Choice.{any, choose}
+use Rattle.rules.specs.Choice.{any}
 use Rattle.rules.specs.Limits.{nameLimit}
-use Rattle.rules.specs.Lexemes.{comma, Lex, lexed, isLong}
-use Rattle.rules.specs.Library.{startSymbol, startSymbols}
+use Rattle.rules.specs.Lexemes.{comma, lexed, isLong}
+use Rattle.rules.specs.Library.{startSymbols}
 use Rattle.rules.proofs.Choices.{by, chosen, passed-over}
 use Rattle.rules.proofs.Logic.{clash, or-left, any-in-front, any-behind}
 use Rattle.parts.specs.Parts.{bareAt, partsFrom}

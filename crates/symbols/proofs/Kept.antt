@@ -27,20 +27,20 @@ use Rattle.symbols.specs.Declared.{addLocals, addGlobals}
 -- ---- globals of a macro that the library has with the same kind
 
 -- as `agree` of `Held` says it, and by the kind that a name's first entry gives
-abbrev Agree : Globals → Globals → Type 0
+abbrev pub Agree : Globals → Globals → Type 0
 Agree gs hs = (n : Bytes) → placeAmong (firsts gs) n < length gs
     → (placeAmong (firsts hs) n < length hs) × (getD (seconds hs) (placeAmong (firsts hs) n) setA ≡ getD (seconds gs) (placeAmong (firsts gs) n) setA)
 
-abbrev Same : Globals → Globals → Type 0
+abbrev pub Same : Globals → Globals → Type 0
 Same gs hs = (n : Bytes) (k : Set) → kindIn gs n ≡ some k → kindIn hs n ≡ some k
 
-same-kinds : (gs hs : Globals) → Agree gs hs → Same gs hs
+pub same-kinds : (gs hs : Globals) → Agree gs hs → Same gs hs
 same-kinds gs hs a n k e =
     let l = in-range gs n k e in
     let h = a n l in
     found-kind hs n (h .0) ∙ (ap some (h .1) ∙ (sym (found-kind gs n l) ∙ e))
 
-kinds-agree : (gs hs : Globals) → Same gs hs → Agree gs hs
+pub kinds-agree : (gs hs : Globals) → Same gs hs → Agree gs hs
 kinds-agree gs hs s n l =
     let k = getD (seconds gs) (placeAmong (firsts gs) n) setA in
     let e = s n k (found-kind gs n l) in

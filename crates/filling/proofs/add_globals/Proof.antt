@@ -1,10 +1,11 @@
 -- `add_globals` meets its contract: putting in what the parts from here on declare is putting in all. Assumes nothing.
-use Prim.Native.Nat.{ℕ, _+_, _*_, _-_, _≤_, _<_}
+use borrow.Author.Needs.{needs}
+use Prim.Native.Nat.{ℕ, _+_, _-_, _≤_, _<_}
 use native.Mathlib.Omega.{arith}
 use mathlib.Core.Path.{_≡_, refl, ap, sym, _∙_, subst}
 use mathlib.Core.Bool.{false}
 use mathlib.Core.List.{List}
-use lib.ListN.{length, take, drop}
+use lib.ListN.{length}
 use Rattle.text.specs.Bytes.{Bytes}
 use Rattle.rules.specs.Choice.{any}
 use Rattle.rules.specs.Lexemes.{isLong}
@@ -13,7 +14,6 @@ use Rattle.filling.specs.Added.{Adds}
 use Rattle.filling.proofs.Symbols.{symbolsFrom, symbols-none, symbols-start, symbols-done, symbols-on, part-count}
 use Rattle.filling.proofs.Rows.{first-short, others-short, most-then}
 use Rattle.filling.proofs.Adding.{adds-nothing, adds-then}
-use borrow.Author.Needs.{needs}
 use Rattle.filling.proofs.add_globals.Statement.{statement}
 use Rattle.filling.proofs.add_globals.Tie as tie
 

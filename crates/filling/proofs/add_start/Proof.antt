@@ -1,11 +1,11 @@
 -- `add_start` meets its contract: no symbol, a global that is there, or one more. Assumes nothing.
+use borrow.Author.Needs.{needs}
 use native.Mathlib.Omega.{arith}
 use mathlib.Core.Path.{refl, ap}
-use lib.ListN.{length, take, drop}
+use lib.ListN.{length}
 use Rattle.filling.proofs.Symbols.{no-start, one-start, start-fits}
 use Rattle.filling.proofs.Rows.{room-for-one, name-short}
 use Rattle.filling.proofs.Adding.{adds-nothing, adds-known, adds-new}
-use borrow.Author.Needs.{needs}
 use Rattle.filling.proofs.add_start.Statement.{statement}
 use Rattle.filling.proofs.add_start.Tie as tie
 

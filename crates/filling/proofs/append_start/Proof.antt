@@ -1,11 +1,8 @@
 -- `append_start` meets its contract: the part's start symbol is the row more, if there is one. Assumes nothing.
+use borrow.Author.Needs.{needs}
 use native.Mathlib.Omega.{arith}
-use mathlib.Core.Path.{ap, _∙_}
-use lib.ListN.{length}
-use Rattle.lent.proofs.Writes.{splice-length}
 use Rattle.filling.proofs.Symbols.{start-fits}
 use Rattle.filling.proofs.Rows.{nothing-more, room-for-one, name-short, one-more}
-use borrow.Author.Needs.{needs}
 use Rattle.filling.proofs.append_start.Statement.{statement}
 use Rattle.filling.proofs.append_start.Tie as tie
 

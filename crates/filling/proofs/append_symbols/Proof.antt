@@ -1,19 +1,18 @@
 -- `append_symbols` meets its contract: the symbols of the parts from here on complete the table. Assumes nothing.
+use borrow.Author.Needs.{needs}
 use Prim.Native.Nat.{_+_, _*_, _-_, _≤_, _<_}
 use native.Mathlib.Omega.{arith}
 use mathlib.Core.Path.{_≡_, refl, ap, sym, _∙_}
 use mathlib.Core.Bool.{false}
 use mathlib.Core.List.{List, _++_}
-use lib.ListN.{length, take, drop}
+use lib.ListN.{length, take}
 use Rattle.text.specs.Bytes.{Bytes}
 use Rattle.rules.specs.Choice.{any}
 use Rattle.rules.specs.Lexemes.{isLong}
 use Rattle.names.specs.Names.{namesIn}
-use Rattle.declared.specs.Declared.{startName}
 use Rattle.declaring.specs.Declared.{symbolsIn}
 use Rattle.filling.proofs.Symbols.{symbolsFrom, symbols-none, symbols-start, symbols-done, part-count}
 use Rattle.filling.proofs.Rows.{first-short, others-short, count-then, names-then, count-end, names-end}
-use borrow.Author.Needs.{needs}
 use Rattle.filling.proofs.append_symbols.Statement.{statement}
 use Rattle.filling.proofs.append_symbols.Tie as tie
 

@@ -1,4 +1,5 @@
 -- `declare_parameters` meets its contract: the name's symbol, and then the operand's. Assumes nothing.
+use borrow.Author.Needs.{needs}
 use native.Mathlib.Omega.{arith}
 use mathlib.Core.Path.{ap, sym, _∙_}
 use mathlib.Core.Bool.{false}
@@ -7,7 +8,6 @@ use Rattle.rules.specs.Lexemes.{isLong}
 use Rattle.declared.proofs.Starts.{start-is}
 use Rattle.filling.proofs.Symbols.{start-count}
 use Rattle.filling.proofs.Rows.{from-start}
-use borrow.Author.Needs.{needs}
 use Rattle.filling.proofs.declare_parameters.Statement.{statement}
 use Rattle.filling.proofs.declare_parameters.Tie as tie
 
