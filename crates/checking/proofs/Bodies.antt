@@ -27,6 +27,7 @@ use Rattle.symbols.specs.Held.{Held, unknownIn}
 use Rattle.shapes.specs.Shapes.{targetText, Spelt}
 use Rattle.shapes.proofs.Spelt.{spelt}
 use Rattle.declaring.specs.Declared.{symbolsIn}
+use Rattle.filling.proofs.Counts.{grown-count}
 use Rattle.checking.specs.Body.{firstOf, misplaced, Tables, badSymbols, goodFields, nestingOf, formedCode, tooMany, nameCode, operationCode, operandCode, codeOf, shapeIn, targetCode, hasBadNameIn, doesOn, isIllFormedIn, isPastIn, statementFault}
 use Rattle.checking.proofs.Symbols.{declares-either, name-unknown, bad-symbols}
 use Rattle.checking.proofs.Formed.{good-fields, formed-coded, nesting-coded}
@@ -129,12 +130,9 @@ module _ {names : Names} {globals : List (Bytes × Set)} (t : Tables) (h : Held 
       unfolding symbolsIn operandParts
       global-new k e = or-left _ (any (hasOtherKind k globals) (startSymbols (operandParts f))) (sym (declares-either (isDeclared names) (hasOtherKind k globals) (startSymbols (operandParts f))) ∙ global-good k e)
 
-      grown : (k : Set) (ns : List Bytes) → declaresWrongly (isDeclared names) ns ≡ false → length (withGlobals globals (ofKind k ns)) ≡ length globals + count (λ n. not (any (same n) (firsts globals))) ns
-      grown k ns e = ?
-
       past-limits : isPastIn t (length (names .locals)) l ≡ (not (isFormed nestLimit kinded) || past t h f st)
       unfolding isPastIn
-      past-limits = λ i. not (formed nestLimit i) || too-many t h f st (λ k e. grown k (symbolsIn (f .operand)) (global-new k e)) i
+      past-limits = λ i. not (formed nestLimit i) || too-many t h f st (λ k e. grown-count (isDeclared names) k (symbolsIn (f .operand)) globals (global-new k e)) i
 
 -- the line of a body that stands behind these
 module _ (a : Around) (p : Bytes) (before ls : List Bytes) (t : Tables) (h : Held (namesIn p before) (a .globals) (t .own) (t .global) (t .shared) (t .kinds))

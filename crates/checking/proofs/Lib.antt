@@ -1,6 +1,7 @@
 pub mod Words
 pub mod Placed
 pub mod Around
+pub mod Tested
 pub mod Symbols
 pub mod Formed
 pub mod Counted

@@ -2,7 +2,7 @@
 ghost use mathlib.Core.Path.{_≡_};
 ghost use mathlib.Core.Bool.{Bool, _||_, true};
 ghost use mathlib.Core.List.{[]};
-ghost use Prim.Native.Nat.{_+_, _<_, _^_};
+ghost use Prim.Native.Nat.{_≤_};
 ghost use lib.ListN.{length, getD};
 ghost use Rattle.text.specs.Bytes.{Bytes};
 ghost use Rattle.rules.specs.Lexemes.{lexed};
@@ -128,7 +128,7 @@ fn has_bad_symbols(
 
 // 5: whether a declaration declares more locals than a macro may have, which has `locals`, or more globals than a library may have.
 fn declares_too_many(word: usize, locals: usize, operand: &[u8], shared: &[u8]) -> bool
-    requires { ⌜ locals + length (now operand) < 2 ^ 64 ⌝ }
+    requires { ⌜ (locals ≤ 64) × (length (now operand) ≤ 71) ⌝ }
     ensures { λ r. ⌜ ((own global kinds : Bytes) → r ≡ tooMany (record { own = own; global = global; shared = now (shared .entry); kinds = kinds }) locals (now (operand .entry)) (getD statements word model)) ⌝ }
 {
     if word < 3 {
