@@ -24,7 +24,7 @@ fn is_among(name: &[u8], table: &[u8]) -> bool
 }
 
 // Whether the name begins SYS.
-fn begins_sys(name: &[u8]) -> bool
+pub fn begins_sys(name: &[u8]) -> bool
     ensures { λ r. ⌜ r ≡ startsWith (bytes "SYS") (now (name .entry)) ⌝ }
 {
     if name.len() < 3 {
