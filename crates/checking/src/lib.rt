@@ -13,7 +13,7 @@ ghost use Rattle.declaring.specs.Declared.{symbolsIn, isTaken};
 ghost use Rattle.checking.specs.Body.{misplaced, badSymbols, goodFields, tooMany};
 
 // 2: whether a statement is out of place: `empty` says that it has no operation, `ended` that a statement stands before which is no declaration.
-fn is_misplaced(word: usize, empty: bool, ended: bool) -> bool
+pub fn is_misplaced(word: usize, empty: bool, ended: bool) -> bool
     ensures { λ r. ⌜ r ≡ misplaced (getD statements word model) empty ended ⌝ }
 {
     if word == 0 {
@@ -43,7 +43,7 @@ fn is_declaration(name: &[u8], operand: &[u8]) -> bool
 }
 
 // 4: whether the fields around what the grammar reads are good; `target` has the codes of a branch target.
-fn are_fields_good(word: usize, name: &[u8], operand: &[u8], target: &[u8]) -> bool
+pub fn are_fields_good(word: usize, name: &[u8], operand: &[u8], target: &[u8]) -> bool
     ensures { λ r. ⌜ r ≡ goodFields (now (name .entry)) (now (operand .entry)) (now (target .entry)) (getD statements word model) ⌝ }
 {
     if word == 0 {
@@ -82,7 +82,7 @@ fn declares_badly(operand: &[u8], own: &[u8], global: &[u8]) -> bool
 }
 
 // 3, by statement: whether a symbol in its operation or operand is too long, not known or declared twice, or its target names no line.
-fn has_bad_symbols(
+pub fn has_bad_symbols(
     word: usize,
     operand: &[u8],
     operation_code: &[u8],
@@ -127,7 +127,7 @@ fn has_bad_symbols(
 }
 
 // 5: whether a declaration declares more locals than a macro may have, which has `locals`, or more globals than a library may have.
-fn declares_too_many(word: usize, locals: usize, operand: &[u8], shared: &[u8]) -> bool
+pub fn declares_too_many(word: usize, locals: usize, operand: &[u8], shared: &[u8]) -> bool
     requires { ⌜ (locals ≤ 64) × (length (now operand) ≤ 71) ⌝ }
     ensures { λ r. ⌜ ((own global kinds : Bytes) → r ≡ tooMany (record { own = own; global = global; shared = now (shared .entry); kinds = kinds }) locals (now (operand .entry)) (getD statements word model)) ⌝ }
 {

@@ -1,0 +1,82 @@
+// The lowest number that a line of a body has.
+ghost use mathlib.Core.Path.{_≡_};
+ghost use mathlib.Core.Bool.{Bool, true, false, _||_};
+ghost use mathlib.Core.List.{List, []};
+ghost use Prim.Native.Nat.{_+_, _-_, _≤_};
+ghost use lib.ListN.{length, getD, take};
+ghost use Rattle.text.specs.Bytes.{Bytes};
+ghost use Rattle.rules.specs.Fields.{linesOf, fieldsOf};
+ghost use Rattle.rules.specs.Statement.{statements, model, Does};
+ghost use Rattle.rules.specs.Faults.{isLongSequence, isUsedTwice};
+ghost use Rattle.forms.specs.Numbers.{doesNumber};
+ghost use Rattle.symbols.specs.Held.{unknownIn};
+ghost use Rattle.shapes.specs.Shapes.{part};
+ghost use Rattle.checking.specs.Body.{firstOf, badSymbols, formedCode, nestingOf, hasBadNameIn, isIllFormedIn, isPastIn};
+ghost use Rattle.faults.specs.Coded.{Coded, Ordered, Inside};
+
+// Whether what a shape keeps is well formed, with at most `nest` pairs of parentheses open at once.
+fn keeps_good(shape: shapes::Shape, kinds: &[u8], code: &[u8], nest: usize) -> bool
+    requires { ⌜ Inside shape (length (now code)) ⌝ }
+    ensures { λ r. ⌜ ((d : Does Bytes) → shape .does ≡ doesNumber d → r ≡ formedCode nest (now (kinds .entry)) (now (code .entry)) shape d) ⌝ }
+{
+    let name = shape.name;
+    let operation = shape.operation;
+    let gap = shape.gap;
+    let operand = shape.operand;
+    let rest = shape.rest;
+    forms::is_formed(
+        shape.does,
+        kinds,
+        &code[0..name],
+        &code[operation..gap],
+        &code[operand..rest],
+        nest,
+    )
+}
+
+// 3: whether a name in a statement is too long, not known, or used twice.
+fn has_bad_name(
+    word: usize,
+    name: &[u8],
+    operand: &[u8],
+    codes: shapes::Codes,
+    shape: shapes::Shape,
+    code: &[u8],
+    before: &[u8],
+    from: &[u8],
+    own: &[u8],
+    global: &[u8],
+    shared: &[u8],
+    kinds: &[u8],
+) -> bool
+    requires { ⌜ Ordered codes (length (now code)) × Inside shape (length (now code)) ⌝ }
+    ensures { λ r. ⌜ r ≡ (isLongSequence (now (name .entry)) || (unknownIn (take (codes .name) (now (code .entry))) || (isUsedTwice (linesOf (now (before .entry))) (now (name .entry)) || badSymbols (record { own = now (own .entry); global = now (global .entry); shared = now (shared .entry); kinds = now (kinds .entry) }) (linesOf (now (before .entry))) (linesOf (now (from .entry))) (now (operand .entry)) (part (now (code .entry)) (codes .name) (codes .operation)) (part (now (code .entry)) (codes .operation) (codes .operand)) (part (now (code .entry)) (shape .rest) (shape .end)) (getD statements word model)))) ⌝ }
+{
+    if statements::is_long_sequence(name) {
+        return true;
+    }
+    let first = codes.name;
+    if symbols::has_unknown(&code[0..first]) {
+        return true;
+    }
+    if labels::is_used_twice(before, name) {
+        return true;
+    }
+    let second = codes.operation;
+    let third = codes.operand;
+    let rest = shape.rest;
+    let end = shape.end;
+    checking::has_bad_symbols(
+        word,
+        operand,
+        &code[first..second],
+        &code[second..third],
+        &code[rest..end],
+        before,
+        from,
+        own,
+        global,
+        shared,
+        kinds,
+    )
+}
