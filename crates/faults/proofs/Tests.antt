@@ -12,21 +12,26 @@ use Rattle.grammar.specs.Tokens.{toksAt}
 use Rattle.shapes.specs.declared.Shape.{Shape}
 use Rattle.shapes.specs.Shapes.{part}
 use Rattle.checking.specs.Body.{keptLine, formedCode}
+use Rattle.faults.specs.Coded.{anyOf}
 
 -- the first of four tests that holds, or what the last one says
 module _ (a b c d : Bool) where
-  pub first-holds : a ≡ true → true ≡ (a || (b || (c || d)))
+  pub first-holds : a ≡ true → true ≡ anyOf a b c d
+  unfolding anyOf
   first-holds e = ap (λ (x : Bool). x || (b || (c || d))) (sym e)
 
   module _ (ea : a ≡ false) where
-    pub second-holds : b ≡ true → true ≡ (a || (b || (c || d)))
+    pub second-holds : b ≡ true → true ≡ anyOf a b c d
+    unfolding anyOf
     second-holds e = λ i. sym ea i || (sym e i || (c || d))
 
     module _ (eb : b ≡ false) where
-      pub third-holds : c ≡ true → true ≡ (a || (b || (c || d)))
+      pub third-holds : c ≡ true → true ≡ anyOf a b c d
+      unfolding anyOf
       third-holds e = λ i. sym ea i || (sym eb i || (sym e i || d))
 
-      pub last-says : c ≡ false → d ≡ (a || (b || (c || d)))
+      pub last-says : c ≡ false → d ≡ anyOf a b c d
+      unfolding anyOf
       last-says e = λ i. sym ea i || (sym eb i || (sym e i || d))
 
 -- a text's front, cut out from its start

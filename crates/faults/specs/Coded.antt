@@ -1,7 +1,7 @@
 -- A statement with its word, its fields and their codes. Assumes nothing.
 use Prim.Native.Nat.{ℕ, _≤_}
 use mathlib.Core.Path.{_≡_}
-use mathlib.Core.Bool.{Bool, true, false}
+use mathlib.Core.Bool.{Bool, true, false, _||_}
 use lib.ListN.{length}
 use Rattle.text.specs.Bytes.{Bytes}
 use Rattle.text.specs.Characters.{inSet}
@@ -12,6 +12,10 @@ use Rattle.shapes.specs.declared.Codes.{Codes}
 use Rattle.shapes.specs.declared.Shape.{Shape}
 use Rattle.shapes.specs.Shapes.{endsOf}
 use Rattle.checking.specs.Body.{Tables, nameCode, operationCode, operandCode, codeOf}
+
+-- one of four tests holds
+unfoldable pub anyOf : Bool → Bool → Bool → Bool → Bool
+anyOf a b c d = a || (b || (c || d))
 
 -- the word, the name, the operand and the codes of this line
 pub record Coded (t : Tables) (l : Bytes) (word : ℕ) (name operand : Bytes) (codes : Codes) (code : Bytes) : Type 0 where

@@ -12,7 +12,7 @@ ghost use Rattle.forms.specs.Numbers.{doesNumber};
 ghost use Rattle.symbols.specs.Held.{unknownIn};
 ghost use Rattle.shapes.specs.Shapes.{part};
 ghost use Rattle.checking.specs.Body.{firstOf, badSymbols, formedCode, nestingOf, hasBadNameIn, isIllFormedIn, isPastIn};
-ghost use Rattle.faults.specs.Coded.{Coded, Ordered, Inside};
+ghost use Rattle.faults.specs.Coded.{anyOf, Coded, Ordered, Inside};
 
 // Whether what a shape keeps is well formed, with at most `nest` pairs of parentheses open at once.
 fn keeps_good(shape: shapes::Shape, kinds: &[u8], code: &[u8], nest: usize) -> bool
@@ -50,7 +50,7 @@ fn has_bad_name(
     kinds: &[u8],
 ) -> bool
     requires { ⌜ Ordered codes (length (now code)) × Inside shape (length (now code)) ⌝ }
-    ensures { λ r. ⌜ r ≡ (isLongSequence (now (name .entry)) || (unknownIn (take (codes .name) (now (code .entry))) || (isUsedTwice (linesOf (now (before .entry))) (now (name .entry)) || badSymbols (record { own = now (own .entry); global = now (global .entry); shared = now (shared .entry); kinds = now (kinds .entry) }) (linesOf (now (before .entry))) (linesOf (now (from .entry))) (now (operand .entry)) (part (now (code .entry)) (codes .name) (codes .operation)) (part (now (code .entry)) (codes .operation) (codes .operand)) (part (now (code .entry)) (shape .rest) (shape .end)) (getD statements word model)))) ⌝ }
+    ensures { λ r. ⌜ r ≡ anyOf (isLongSequence (now (name .entry))) (unknownIn (take (codes .name) (now (code .entry)))) (isUsedTwice (linesOf (now (before .entry))) (now (name .entry))) (badSymbols (record { own = now (own .entry); global = now (global .entry); shared = now (shared .entry); kinds = now (kinds .entry) }) (linesOf (now (before .entry))) (linesOf (now (from .entry))) (now (operand .entry)) (part (now (code .entry)) (codes .name) (codes .operation)) (part (now (code .entry)) (codes .operation) (codes .operand)) (part (now (code .entry)) (shape .rest) (shape .end)) (getD statements word model)) ⌝ }
 {
     if statements::is_long_sequence(name) {
         return true;
@@ -79,4 +79,58 @@ fn has_bad_name(
         shared,
         kinds,
     )
+}
+
+// The lowest number from 3 on of a statement with this word, name and operand, whose fields' codes stand in `code`; 0 where it has none.
+fn coded_fault(
+    word: usize,
+    name: &[u8],
+    operand: &[u8],
+    codes: shapes::Codes,
+    code: &[u8],
+    before: &[u8],
+    from: &[u8],
+    locals: usize,
+    own: &[u8],
+    global: &[u8],
+    shared: &[u8],
+    kinds: &[u8],
+) -> u8
+    requires { ⌜ Ordered codes (length (now code)) × ((locals ≤ 64) × ((length (now operand) ≤ 71) × (length (now code) ≤ 71))) ⌝ }
+    ensures { λ r. ⌜ ((l : Bytes) → Coded (record { own = now (own .entry); global = now (global .entry); shared = now (shared .entry); kinds = now (kinds .entry) }) l word (now (name .entry)) (now (operand .entry)) codes (now (code .entry)) → r ≡ firstOf false (hasBadNameIn (record { own = now (own .entry); global = now (global .entry); shared = now (shared .entry); kinds = now (kinds .entry) }) (linesOf (now (before .entry))) (linesOf (now (from .entry))) (fieldsOf l)) (isIllFormedIn (record { own = now (own .entry); global = now (global .entry); shared = now (shared .entry); kinds = now (kinds .entry) }) l) (isPastIn (record { own = now (own .entry); global = now (global .entry); shared = now (shared .entry); kinds = now (kinds .entry) }) locals l)) ⌝ }
+{
+    let label = statements::is_sequence(name);
+    let shape = shapes::shape_of(word, label, codes, code);
+    if has_bad_name(
+        word,
+        name,
+        operand,
+        codes,
+        shape,
+        code,
+        before,
+        from,
+        own,
+        global,
+        shared,
+        kinds,
+    ) {
+        return 3;
+    }
+    let rest = shape.rest;
+    let end = shape.end;
+    if !checking::are_fields_good(word, name, operand, &code[rest..end]) {
+        return 4;
+    }
+    let nest = shape.name + ((shape.gap - shape.operation) + (shape.rest - shape.operand));
+    if !keeps_good(shape, kinds, code, nest) {
+        return 4;
+    }
+    if !keeps_good(shape, kinds, code, 8) {
+        return 5;
+    }
+    if checking::declares_too_many(word, locals, operand, shared) {
+        return 5;
+    }
+    0
 }

@@ -1,9 +1,8 @@
+-- `faults::keeps_good` meets its contract. Assumes nothing.
 use borrow.Author.Needs.{needs}
+use Rattle.faults.proofs.Tests.{formed-kept}
 use Rattle.faults.proofs.keeps_good.Statement.{statement}
 use Rattle.faults.proofs.keeps_good.Tie as tie
-use Rattle.faults.proofs.keeps_good.Reads as reads
-use Rattle.faults.proofs.keeps_good.Lts as lts
-use Rattle.forms.proofs.is_formed.Reads as is-formed-reads
 
 sub-is-formed : tie.Need-sub-is-formed
 sub-is-formed c = search needs
@@ -36,7 +35,7 @@ is-formed-requires : tie.Need-is-formed-requires
 is-formed-requires c κs = search needs
 
 returns : tie.Need-returns
-returns c = search needs
+returns c = λ d e. formed-kept _ _ _ _ d _ (c .is-formed .ensures d e)
 
 pub keeps-good-spec : {M : Type 1} → statement M
 keeps-good-spec =
