@@ -10,7 +10,8 @@ ghost use Rattle.rules.specs.Statement.{statements, model, Does};
 ghost use Rattle.rules.specs.Faults.{isLongSequence, isUsedTwice};
 ghost use Rattle.forms.specs.Numbers.{doesNumber};
 ghost use Rattle.symbols.specs.Held.{unknownIn};
-ghost use Rattle.shapes.specs.Shapes.{part};
+ghost use Rattle.shapes.specs.Shapes.{part, shapeOf};
+ghost use Rattle.rules.specs.Lexemes.{isSequence};
 ghost use Rattle.checking.specs.Body.{firstOf, badSymbols, formedCode, nestingOf, hasBadNameIn, isIllFormedIn, isPastIn};
 ghost use Rattle.faults.specs.Coded.{anyOf, Coded, Ordered, Inside};
 
@@ -81,12 +82,21 @@ fn has_bad_name(
     )
 }
 
-// The lowest number from 3 on of a statement with this word, name and operand, whose fields' codes stand in `code`; 0 where it has none.
-fn coded_fault(
+// More pairs of parentheses than what a shape keeps can have.
+fn nesting(shape: shapes::Shape, size: usize) -> usize
+    requires { ⌜ Inside shape size × (size ≤ 71) ⌝ }
+    ensures { λ r. ⌜ r ≡ nestingOf shape ⌝ }
+{
+    shape.name + ((shape.gap - shape.operation) + (shape.rest - shape.operand))
+}
+
+// The lowest number from 3 on of a statement with this word, name, operand and shape, whose fields' codes stand in `code`; 0 where it has none.
+fn shaped_fault(
     word: usize,
     name: &[u8],
     operand: &[u8],
     codes: shapes::Codes,
+    shape: shapes::Shape,
     code: &[u8],
     before: &[u8],
     from: &[u8],
@@ -96,11 +106,9 @@ fn coded_fault(
     shared: &[u8],
     kinds: &[u8],
 ) -> u8
-    requires { ⌜ Ordered codes (length (now code)) × ((locals ≤ 64) × ((length (now operand) ≤ 71) × (length (now code) ≤ 71))) ⌝ }
-    ensures { λ r. ⌜ ((l : Bytes) → Coded (record { own = now (own .entry); global = now (global .entry); shared = now (shared .entry); kinds = now (kinds .entry) }) l word (now (name .entry)) (now (operand .entry)) codes (now (code .entry)) → r ≡ firstOf false (hasBadNameIn (record { own = now (own .entry); global = now (global .entry); shared = now (shared .entry); kinds = now (kinds .entry) }) (linesOf (now (before .entry))) (linesOf (now (from .entry))) (fieldsOf l)) (isIllFormedIn (record { own = now (own .entry); global = now (global .entry); shared = now (shared .entry); kinds = now (kinds .entry) }) l) (isPastIn (record { own = now (own .entry); global = now (global .entry); shared = now (shared .entry); kinds = now (kinds .entry) }) locals l)) ⌝ }
+    requires { ⌜ Ordered codes (length (now code)) × (Inside shape (length (now code)) × ((locals ≤ 64) × ((length (now operand) ≤ 71) × (length (now code) ≤ 71)))) ⌝ }
+    ensures { λ r. ⌜ ((l : Bytes) → Coded (record { own = now (own .entry); global = now (global .entry); shared = now (shared .entry); kinds = now (kinds .entry) }) l word (now (name .entry)) (now (operand .entry)) codes (now (code .entry)) → shape ≡ shapeOf (getD statements word model) (isSequence (now (name .entry))) codes (now (code .entry)) → r ≡ firstOf false (hasBadNameIn (record { own = now (own .entry); global = now (global .entry); shared = now (shared .entry); kinds = now (kinds .entry) }) (linesOf (now (before .entry))) (linesOf (now (from .entry))) (fieldsOf l)) (isIllFormedIn (record { own = now (own .entry); global = now (global .entry); shared = now (shared .entry); kinds = now (kinds .entry) }) l) (isPastIn (record { own = now (own .entry); global = now (global .entry); shared = now (shared .entry); kinds = now (kinds .entry) }) locals l)) ⌝ }
 {
-    let label = statements::is_sequence(name);
-    let shape = shapes::shape_of(word, label, codes, code);
     if has_bad_name(
         word,
         name,
@@ -122,8 +130,7 @@ fn coded_fault(
     if !checking::are_fields_good(word, name, operand, &code[rest..end]) {
         return 4;
     }
-    let nest = shape.name + ((shape.gap - shape.operation) + (shape.rest - shape.operand));
-    if !keeps_good(shape, kinds, code, nest) {
+    if !keeps_good(shape, kinds, code, nesting(shape, code.len())) {
         return 4;
     }
     if !keeps_good(shape, kinds, code, 8) {
