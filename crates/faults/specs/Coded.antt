@@ -7,7 +7,7 @@ use Rattle.text.specs.Bytes.{Bytes}
 use Rattle.text.specs.Characters.{inSet}
 use Rattle.text.specs.Words.{wordNumber}
 use Rattle.rules.specs.Choice.{every}
-use Rattle.rules.specs.Fields.{fieldsOf}
+use Rattle.rules.specs.Fields.{isRemark, fieldsOf}
 use Rattle.shapes.specs.declared.Codes.{Codes}
 use Rattle.shapes.specs.declared.Shape.{Shape}
 use Rattle.shapes.specs.Shapes.{endsOf}
@@ -16,6 +16,12 @@ use Rattle.checking.specs.Body.{Tables, nameCode, operationCode, operandCode, c
 -- one of four tests holds
 unfoldable pub anyOf : Bool → Bool → Bool → Bool → Bool
 anyOf a b c d = a || (b || (c || d))
+
+-- a line that is well written and no remark
+pub record Statement (l : Bytes) : Type 0 where
+  pub in-set : every inSet l ≡ true
+  pub short : length l ≤ 71
+  pub no-remark : isRemark l ≡ false
 
 -- the word, the name, the operand and the codes of this line
 pub record Coded (t : Tables) (l : Bytes) (word : ℕ) (name operand : Bytes) (codes : Codes) (code : Bytes) : Type 0 where

@@ -12,8 +12,8 @@ ghost use Rattle.forms.specs.Numbers.{doesNumber};
 ghost use Rattle.symbols.specs.Held.{unknownIn};
 ghost use Rattle.shapes.specs.Shapes.{part, shapeOf};
 ghost use Rattle.rules.specs.Lexemes.{isSequence};
-ghost use Rattle.checking.specs.Body.{firstOf, badSymbols, formedCode, nestingOf, hasBadNameIn, isIllFormedIn, isPastIn};
-ghost use Rattle.faults.specs.Coded.{anyOf, Coded, Ordered, Inside};
+ghost use Rattle.checking.specs.Body.{firstOf, badSymbols, formedCode, nestingOf, hasBadNameIn, isIllFormedIn, isPastIn, statementFault};
+ghost use Rattle.faults.specs.Coded.{anyOf, Statement, Coded, Ordered, Inside};
 
 // Whether what a shape keeps is well formed, with at most `nest` pairs of parentheses open at once.
 fn keeps_good(shape: shapes::Shape, kinds: &[u8], code: &[u8], nest: usize) -> bool
@@ -140,4 +140,82 @@ fn shaped_fault(
         return 5;
     }
     0
+}
+
+// The lowest number from 3 on of a statement with this word, name and operand, whose fields' codes are `code`; 0 where it has none.
+fn coded_fault(
+    word: usize,
+    name: &[u8],
+    operand: &[u8],
+    codes: shapes::Codes,
+    code: &[u8],
+    before: &[u8],
+    from: &[u8],
+    locals: usize,
+    own: &[u8],
+    global: &[u8],
+    shared: &[u8],
+    kinds: &[u8],
+) -> u8
+    requires { ⌜ Ordered codes (length (now code)) × ((locals ≤ 64) × ((length (now operand) ≤ 71) × (length (now code) ≤ 71))) ⌝ }
+    ensures { λ r. ⌜ ((l : Bytes) → Coded (record { own = now (own .entry); global = now (global .entry); shared = now (shared .entry); kinds = now (kinds .entry) }) l word (now (name .entry)) (now (operand .entry)) codes (now (code .entry)) → r ≡ firstOf false (hasBadNameIn (record { own = now (own .entry); global = now (global .entry); shared = now (shared .entry); kinds = now (kinds .entry) }) (linesOf (now (before .entry))) (linesOf (now (from .entry))) (fieldsOf l)) (isIllFormedIn (record { own = now (own .entry); global = now (global .entry); shared = now (shared .entry); kinds = now (kinds .entry) }) l) (isPastIn (record { own = now (own .entry); global = now (global .entry); shared = now (shared .entry); kinds = now (kinds .entry) }) locals l)) ⌝ }
+{
+    let label = statements::is_sequence(name);
+    let shape = shapes::shape_of(word, label, codes, code);
+    shaped_fault(
+        word,
+        name,
+        operand,
+        codes,
+        shape,
+        code,
+        before,
+        from,
+        locals,
+        own,
+        global,
+        shared,
+        kinds,
+    )
+}
+
+// The lowest number from 2 on of a statement in a body; 0 where it has none. `code` is a buffer for the codes of its fields.
+fn statement_fault(
+    line: &[u8],
+    before: &[u8],
+    from: &[u8],
+    ended: bool,
+    locals: usize,
+    own: &[u8],
+    global: &[u8],
+    shared: &[u8],
+    kinds: &[u8],
+    code: &mut [u8],
+) -> u8
+    requires { ⌜ Statement (now line) × ((locals ≤ 64) × (71 ≤ length (now code))) ⌝ }
+    ensures { λ r. ⌜ r ≡ statementFault (record { own = now (own .entry); global = now (global .entry); shared = now (shared .entry); kinds = now (kinds .entry) }) (linesOf (now (before .entry))) (linesOf (now (from .entry))) ended locals (now (line .entry)) ⌝ }
+{
+    let name = written::name_field(line);
+    let operation = statements::operation_of(line);
+    let operand = written::operand_field(line);
+    let word = words::word(operation);
+    if checking::is_misplaced(word, operation.len() == 0, ended) {
+        return 2;
+    }
+    let codes = shapes::code_fields(name, operation, operand, own, global, shared, code);
+    let end = codes.operand;
+    coded_fault(
+        word,
+        name,
+        operand,
+        codes,
+        &code[0..end],
+        before,
+        from,
+        locals,
+        own,
+        global,
+        shared,
+        kinds,
+    )
 }
