@@ -1,3 +1,4 @@
 pub mod Tests
 pub mod Shaped
 pub mod Coding
+pub mod Lines

@@ -1,15 +1,18 @@
 // The lowest number that a line of a body has.
 ghost use mathlib.Core.Path.{_≡_};
 ghost use mathlib.Core.Bool.{Bool, true, false, _||_};
-ghost use mathlib.Core.List.{List, []};
+ghost use mathlib.Core.List.{List, [], _∷_};
 ghost use Prim.Native.Nat.{_+_, _-_, _≤_};
 ghost use lib.ListN.{length, getD, take};
 ghost use Rattle.text.specs.Bytes.{Bytes};
-ghost use Rattle.rules.specs.Fields.{linesOf, fieldsOf};
+ghost use Rattle.rules.specs.Fields.{linesOf, isIllWritten, fieldsOf};
 ghost use Rattle.rules.specs.Statement.{statements, model, Does};
-ghost use Rattle.rules.specs.Faults.{isLongSequence, isUsedTwice};
+ghost use Rattle.rules.specs.Faults.{Around, endsDeclarations, isOutOfPlace, isLongSequence, isUsedTwice, hasBadName, isIllFormed, isPast};
+ghost use Rattle.rules.specs.Library.{inBody, namesIn};
+ghost use Rattle.rules.specs.Choice.{any};
+ghost use Rattle.prototypes.specs.Lowest.{lowest};
 ghost use Rattle.forms.specs.Numbers.{doesNumber};
-ghost use Rattle.symbols.specs.Held.{unknownIn};
+ghost use Rattle.symbols.specs.Held.{Held, unknownIn};
 ghost use Rattle.shapes.specs.Shapes.{part, shapeOf};
 ghost use Rattle.rules.specs.Lexemes.{isSequence};
 ghost use Rattle.checking.specs.Body.{firstOf, badSymbols, formedCode, nestingOf, hasBadNameIn, isIllFormedIn, isPastIn, statementFault};
@@ -217,5 +220,42 @@ fn statement_fault(
         global,
         shared,
         kinds,
+    )
+}
+
+// The lowest number that a line of a body has; 0 where it has none. `before` are the lines of the body before it, `from` this line and all behind it, `ended` says
+// that one before it is no declaration, `locals` how many locals the macro has so far; `code` is a buffer for the codes of its fields.
+pub fn body_fault(
+    line: &[u8],
+    before: &[u8],
+    from: &[u8],
+    ended: bool,
+    locals: usize,
+    own: &[u8],
+    global: &[u8],
+    shared: &[u8],
+    kinds: &[u8],
+    code: &mut [u8],
+) -> u8
+    requires { ⌜ (locals ≤ 64) × (71 ≤ length (now code)) ⌝ }
+    ensures { λ r. ⌜ ((a : Around) (p : Bytes) (ls : List Bytes) → Held (namesIn p (linesOf (now (before .entry)))) (a .globals) (now (own .entry)) (now (global .entry)) (now (shared .entry)) (now (kinds .entry)) → linesOf (now (from .entry)) ≡ now (line .entry) ∷ ls → ended ≡ any endsDeclarations (linesOf (now (before .entry))) → locals ≡ length (namesIn p (linesOf (now (before .entry))) .locals) → r ≡ lowest (isIllWritten (now (line .entry))) (isOutOfPlace (inBody p (linesOf (now (before .entry)))) (now (line .entry))) (hasBadName a (now (line .entry)) ls (inBody p (linesOf (now (before .entry))))) (isIllFormed (now (line .entry)) (inBody p (linesOf (now (before .entry))))) (isPast a (now (line .entry)) (inBody p (linesOf (now (before .entry)))))) ⌝ }
+{
+    if written::is_ill_written(line) {
+        return 1;
+    }
+    if statements::is_remark(line) {
+        return 0;
+    }
+    statement_fault(
+        line,
+        before,
+        from,
+        ended,
+        locals,
+        own,
+        global,
+        shared,
+        kinds,
+        code,
     )
 }
