@@ -1,20 +1,17 @@
 -- Keywords as a deck has them, written one after another. Assumes nothing.
-use Prim.Native.Nat.{ℕ, suc, _+_, _-_, _/_, _%_, _≤_, _<_}
+use Prim.Native.Nat.{ℕ, _+_, _-_, _/_, _%_, _≤_}
 use native.Mathlib.Omega.{arith}
 use mathlib.Core.Path.{_≡_, refl, ap, sym, _∙_}
-use mathlib.Core.Bool.{true}
 use mathlib.Core.List.{List, [], _∷_, _++_, append-assoc, append-nil}
 use lib.ListN.{length, take, drop, length-append}
 use Rattle.text.specs.Bytes.{Bytes}
-use Rattle.rules.specs.Lexemes.{comma, lexed}
-use Rattle.rules.specs.Calls.{divided}
-use Rattle.rules.specs.Library.{keywordNames}
+use Rattle.rules.specs.Lexemes.{comma}
 use Rattle.deck.specs.Coding.{byte, two, pair, putAll, listOf}
 use Rattle.deck.specs.Coders.{string}
 use Rattle.lent.specs.Splice.{splice}
-use Rattle.lent.proofs.Writes.{splice-append, splice-length}
+use Rattle.lent.proofs.Writes.{splice-append}
 use Rattle.parts.specs.Parts.{bareAt}
-use Rattle.keywords.specs.Keywords.{keywordIn, keywordsIn, keywordsCode}
+use Rattle.keywords.specs.Keywords.{keywordIn, keywordsCode}
 use Rattle.keywords.proofs.Parameters.{keywordsFrom, keywords-on}
 
 -- one text behind another

@@ -1,18 +1,18 @@
 -- The positionals and the keywords of an operand's parts, from a place on: what the first part says of all. Assumes nothing.
 use Prim.Native.Nat.{ℕ, suc, _+_, _-_, _≤_, _<_}
 use native.Mathlib.Omega.{arith}
-use mathlib.Core.Path.{_≡_, refl, ap, sym, subst, _∙_}
-use mathlib.Core.Bool.{Bool, true, false}
+use mathlib.Core.Path.{_≡_, ap, sym, _∙_}
+use mathlib.Core.Bool.{Bool, true}
 use mathlib.Core.List.{List, [], _∷_, _++_}
-use lib.Dec.{eqb, leb, ltb}
+use lib.Dec.{ltb}
 use lib.ListN.{length, take, drop, length-append}
-use borrow.Author.Tests.{lt-ltb, le-ltb, leb-true, leb-false}
+use borrow.Author.Tests.{lt-ltb, le-ltb}
 use Rattle.text.specs.Bytes.{Bytes}
 use Rattle.rules.specs.Choice.{choose}
-use Rattle.rules.specs.Lexemes.{comma, equals, Lex, lexed, unlexed}
+use Rattle.rules.specs.Lexemes.{comma, equals, lexed, unlexed}
 use Rattle.rules.specs.Calls.{divided, equalsAt, hasEquals}
 use Rattle.rules.specs.Library.{startSymbol, startSymbols, withDefault, positionalNames, keywordNames}
-use Rattle.rules.proofs.Choices.{chosen, passed-over, by, either}
+use Rattle.rules.proofs.Choices.{chosen, passed-over, either}
 use Rattle.parts.specs.Parts.{bareAt}
 use Rattle.parts.proofs.Told.{default-bytes}
 use Rattle.declared.specs.Declared.{startLength}
@@ -21,7 +21,7 @@ use Rattle.declared.proofs.Keyword.{has-told}
 use Rattle.operands.proofs.Rest.{Lexes, restFrom, all-none, all-rest, rest-done, rest-on}
 use Rattle.declaring.specs.Declared.{symbolsIn}
 use Rattle.declaring.proofs.Symbols.{start-none, start-one, start-once, symbols-few}
-use Rattle.keywords.specs.Keywords.{positionalIn, keywordIn, positionalsIn, keywordsIn}
+use Rattle.keywords.specs.Keywords.{positionalIn, keywordIn}
 
 -- ---- one part
 

@@ -7,7 +7,7 @@ use Rattle.text.specs.Bytes.{Bytes}
 use Rattle.rules.specs.Choice.{choose}
 use Rattle.rules.specs.Lexemes.{lexed, unlexed}
 use Rattle.rules.specs.Calls.{divided, equalsAt, hasEquals}
-use Rattle.rules.specs.Library.{startSymbol, withDefault, positionalNames, keywordNames}
+use Rattle.rules.specs.Library.{startSymbol, withDefault, keywordNames}
 use Rattle.deck.specs.Coding.{putAll, pair}
 use Rattle.deck.specs.Coders.{string}
 
@@ -21,9 +21,7 @@ keywordIn part =
     let p = lexed true part in
     choose (hasEquals p) (withDefault (startSymbol p) (unlexed (drop (suc (equalsAt p)) p))) []
 
-unfoldable pub positionalsIn : Bytes → List Bytes
-positionalsIn operand = positionalNames (divided (lexed true operand))
-
+-- the keywords of an operand
 unfoldable pub keywordsIn : Bytes → List (Bytes × Bytes)
 keywordsIn operand = keywordNames (divided (lexed true operand))
 
