@@ -1,14 +1,13 @@
 -- The symbols that an operand's parts start with, from a place on: what the first part says of all. Assumes nothing.
-use Prim.Native.Nat.{ℕ, zero, suc, _+_, _-_, _/_, _≤_, _<_}
+use Prim.Native.Nat.{ℕ, zero, suc, _+_, _-_, _≤_, _<_}
 use native.Mathlib.Omega.{arith}
 use mathlib.Core.Path.{_≡_, refl, ap, sym, subst, _∙_}
-use mathlib.Core.Bool.{Bool, true, false, _||_, not}
+use mathlib.Core.Bool.{Bool, true, false, _||_}
 use mathlib.Core.List.{List, [], _∷_, _++_, map}
 use lib.Dec.{eqb, leb, ltb}
-use lib.ListN.{length, take, drop, drop-of-length-le, length-append, length-take, length-drop}
+use lib.ListN.{length, take, drop, length-append, length-take, length-drop}
 use borrow.Author.Tests.{eq-eqb, ne-eqb, eqb-true, eqb-false, ltb-true, ltb-false, leb-true, leb-false}
 use Rattle.text.specs.Bytes.{Bytes, bytes, same}
-use Rattle.text.proofs.Same.{other-length}
 use Rattle.rules.specs.Choice.{choose, any, count}
 use Rattle.rules.specs.Lexemes.{comma, lexed}
 use Rattle.rules.specs.Fields.{startsWith}
@@ -18,7 +17,7 @@ use Rattle.rules.proofs.Choices.{chosen, passed-over, by, either}
 use Rattle.parts.specs.Parts.{bareAt, partsOf}
 use Rattle.declared.specs.Declared.{startLength, startName}
 use Rattle.declared.proofs.Starts.{start-is, start-inside}
-use Rattle.operands.proofs.Rest.{Lexes, restFrom, all-none, all-rest, rest-done, rest-none, rest-there, rest-on, any-append}
+use Rattle.operands.proofs.Rest.{restFrom, all-none, all-rest, rest-done, rest-none, rest-there, rest-on, any-append}
 use Rattle.declaring.specs.Declared.{symbolsIn, isWrong}
 
 -- ---- the symbol that one part starts with

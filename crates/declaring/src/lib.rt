@@ -3,7 +3,7 @@ ghost use mathlib.Core.Path.{_≡_};
 ghost use mathlib.Core.Bool.{true, not};
 ghost use mathlib.Core.List.{map};
 ghost use lib.ListN.{length, drop};
-ghost use Rattle.text.specs.Bytes.{Bytes, bytes, same};
+ghost use Rattle.text.specs.Bytes.{bytes, same};
 ghost use Rattle.rules.specs.Choice.{any, count};
 ghost use Rattle.rules.specs.Lexemes.{lexed};
 ghost use Rattle.rules.specs.Fields.{startsWith};

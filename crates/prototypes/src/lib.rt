@@ -1,6 +1,6 @@
 // The tests of a line where a prototype should stand, and of a line outside definitions: the lowest number that the line has.
 ghost use mathlib.Core.Path.{_≡_};
-ghost use mathlib.Core.Bool.{Bool, true, false};
+ghost use mathlib.Core.Bool.{true, false};
 ghost use mathlib.Core.List.{List, _++_, map};
 ghost use Prim.Native.Nat.{_+_};
 ghost use lib.Dec.{ltb};

@@ -1,4 +1,3 @@
-use borrow.Author.Needs.{needs}
 use Rattle.declaring.proofs.Tables.{other-first, other-second, other-third}
 use Rattle.declaring.proofs.is_other_set.Statement.{statement}
 use Rattle.declaring.proofs.is_other_set.Tie as tie
