@@ -108,6 +108,26 @@ module _ (out : Bytes) {o p : Bytes} where
       let whole : end ≡ length s = i ∙ (ap (λ (k : ℕ). k + length (spaced line)) b ∙ sym (length-append (w ++ spaced number) (spaced line))) in
       ended out s end (joined out (w ++ spaced number) (spaced line) behind (joined out w (spaced number) 8 e f refl) g b) whole
 
+-- an answer lies in the buffer that it was written to
+module _ (out : Bytes) (room : 64 ≤ length out) {new : Bytes} {end : ℕ} where
+  pub deck-fits : (n : ℕ) → new ≡ splice out 0 (deckAnswer n) → end ≡ length (deckAnswer n) → end ≤ length new
+  unfolding deckAnswer
+  deck-fits n e h =
+      let long = as-long out 0 (deckAnswer n) e in
+      let short = spaced-short n in
+      let size = h ∙ (length-append (bytes " DECK" ++ spaced n) (newline ∷ []) ∙ ap (λ (k : ℕ). k + 1) (length-append (bytes " DECK") (spaced n))) in
+      omega (arith, long, short, size, room)
+
+  pub refused-fits : (number line : ℕ) → new ≡ splice out 0 (refusedAnswer number line) → end ≡ length (refusedAnswer number line) → end ≤ length new
+  unfolding refusedAnswer
+  refused-fits number line e h =
+      let long = as-long out 0 (refusedAnswer number line) e in
+      let short = spaced-short number in
+      let short2 = spaced-short line in
+      let both = length-append (bytes " LIBRARY" ++ spaced number) (spaced line) ∙ ap (λ (k : ℕ). k + length (spaced line)) (length-append (bytes " LIBRARY") (spaced number)) in
+      let size = h ∙ (length-append ((bytes " LIBRARY" ++ spaced number) ++ spaced line) (newline ∷ []) ∙ ap (λ (k : ℕ). k + 1) both) in
+      omega (arith, long, short, short2, size, room)
+
 -- ---- bytes moved to the front
 
 module _ (old : Bytes) (from i : ℕ) where
