@@ -1,4 +1,4 @@
--- What stands at a place of a batch: one law for each return of the functions that read it, and where the places of a case lie. Assumes nothing.
+-- What stands at a place of a batch: one law for each return of the functions that read it, and that two numbers end in the input. Assumes nothing.
 use Prim.Native.Nat.{ℕ, _+_, _-_, _≤_, _<_}
 use native.Mathlib.Omega.{arith}
 use mathlib.Core.Path.{_≡_, ap, sym, _∙_}
@@ -16,7 +16,9 @@ use Rattle.batch.specs.declared.Pair.{Pair}
 use Rattle.batch.specs.declared.Pair.the-variants.{Both, Neither}
 use Rattle.batch.specs.declared.Case.{Case}
 use Rattle.batch.specs.declared.Case.the-variants.{Found, End, Broken}
-use Rattle.batch.specs.Format.{space, newline, idEnd, numberAt, secondTo, thenSecond, pairAt, laidOut, withRooms, withSizes, headed, caseAt}
+use Rattle.rules.specs.Lexemes.{space}
+use Rattle.rules.specs.Fields.{newline}
+use Rattle.batch.specs.Format.{idEnd, numberAt, secondTo, thenSecond, pairAt, laidOut, withRooms, withSizes, headed, caseAt}
 use Rattle.batch.proofs.Numbers.{Ahead, number-ahead}
 
 -- ---- two numbers

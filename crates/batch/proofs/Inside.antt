@@ -12,7 +12,9 @@ use Rattle.batch.specs.declared.Pair.{Pair}
 use Rattle.batch.specs.declared.Pair.the-variants.{Both, Neither}
 use Rattle.batch.specs.declared.Case.{Case}
 use Rattle.batch.specs.declared.Case.the-variants.{Found, End, Broken}
-use Rattle.batch.specs.Format.{space, newline, isPrintable, idEnd, pairAt, laidOut, withRooms, withSizes, headed, caseAt}
+use Rattle.rules.specs.Lexemes.{space}
+use Rattle.rules.specs.Fields.{newline}
+use Rattle.batch.specs.Format.{isPrintable, idEnd, pairAt, laidOut, withRooms, withSizes, headed, caseAt}
 use Rattle.batch.proofs.Numbers.{read-inside}
 use Rattle.batch.proofs.Cases.{AheadBoth, pair-ahead}
 

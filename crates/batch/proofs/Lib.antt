@@ -1,4 +1,5 @@
 pub mod Numbers
 pub mod Cases
 pub mod Inside
-pub mod Writing
+pub mod Keeping
+pub mod Stays

@@ -6,6 +6,8 @@ use lib.ListN.{length, take, drop, getD}
 use Rattle.text.specs.Bytes.{Bytes, bytes, same}
 use Rattle.text.specs.Characters.{digit}
 use Rattle.rules.specs.Choice.{choose, run}
+use Rattle.rules.specs.Lexemes.{space}
+use Rattle.rules.specs.Fields.{newline}
 use Rattle.rules.specs.Values.{spelt}
 use Rattle.batch.specs.declared.Number.{Number}
 use Rattle.batch.specs.declared.Number.the-variants.{Is, Not}
@@ -14,12 +16,6 @@ use Rattle.batch.specs.declared.Pair.the-variants.{Both, Neither}
 use Rattle.batch.specs.declared.Case.{Case}
 use Rattle.batch.specs.declared.Case.the-variants.{Found, End, Broken}
 
-abbrev pub space : ℕ
-space = 32
-
-abbrev pub newline : ℕ
-newline = 10
-
 -- "`<id>` is a run of printable non-space characters"
 abbrev pub isPrintable : ℕ → Bool
 isPrintable c = leb 33 c && leb c 126
@@ -27,7 +23,7 @@ isPrintable c = leb 33 c && leb c 126
 unfoldable pub idEnd : Bytes → ℕ → ℕ
 idEnd input at = at + run isPrintable (drop at input)
 
--- "the four numbers are decimal": a number over this one counts more bytes than any input has
+-- "the four numbers are decimal": one over this limit is more than any file or buffer has bytes, and no number here
 abbrev pub numberLimit : ℕ
 numberLimit = 999999999999999999
 

@@ -5,7 +5,7 @@ use native.Mathlib.Omega.{arith}
 use mathlib.Core.Path.{_≡_, ap, _∙_}
 use lib.ListN.{length, take, drop, length-set}
 use Rattle.lent.specs.Splice.{splice}
-use Rattle.batch.proofs.Writing.{keep-on, keep-starts}
+use Rattle.batch.proofs.Keeping.{keep-on, keep-starts}
 use Rattle.batch.proofs.keep.Statement.{statement}
 use Rattle.batch.proofs.keep.Tie as tie
 

@@ -1,10 +1,10 @@
--- `batch::put_spaced` meets its contract: a space, then the number. Assumes nothing.
+-- `answers::put_spaced` meets its contract: a space, then the number. Assumes nothing.
 use borrow.Author.Needs.{needs}
 use mathlib.Core.Path.{_∙_}
 use lib.ListN.{length-set}
-use Rattle.batch.proofs.Writing.{as-long, space-written, space-counted}
-use Rattle.batch.proofs.put_spaced.Statement.{statement}
-use Rattle.batch.proofs.put_spaced.Tie as tie
+use Rattle.answers.proofs.Writing.{as-long, space-written, space-counted}
+use Rattle.answers.proofs.put_spaced.Statement.{statement}
+use Rattle.answers.proofs.put_spaced.Tie as tie
 
 slice-write-out : tie.Need-slice-write-out
 slice-write-out c = search needs

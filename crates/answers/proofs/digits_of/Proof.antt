@@ -1,14 +1,14 @@
--- `batch::digits_of` meets its contract: the digits of the rest before those that stand are those of the number. Assumes nothing.
+-- `answers::digits_of` meets its contract: the digits of the rest before those that stand are those of the number. Assumes nothing.
 use borrow.Author.Needs.{needs}
 use Prim.Native.Nat.{_≤_}
 use mathlib.Core.Path.{_≡_, refl, _∙_}
 use native.Mathlib.Omega.{arith}
 use lib.ListN.{length, drop, length-set}
 use Rattle.rules.specs.Values.{decimal}
-use Rattle.batch.specs.Answers.{decimalOf}
-use Rattle.batch.proofs.Writing.{last-digit, next-digit, no-digit}
-use Rattle.batch.proofs.digits_of.Statement.{statement}
-use Rattle.batch.proofs.digits_of.Tie as tie
+use Rattle.answers.specs.Answers.{decimalOf}
+use Rattle.answers.proofs.Writing.{last-digit, next-digit, no-digit}
+use Rattle.answers.proofs.digits_of.Statement.{statement}
+use Rattle.answers.proofs.digits_of.Tie as tie
 
 abbrev Inv-loop : tie.InvT-loop
 Inv-loop n bytes₀ rest₀ i₀ bytes rest i = (i ≤ 20) × ((length bytes ≡ 20) × (decimal i rest (drop i bytes) ≡ decimalOf n))

@@ -1,8 +1,8 @@
--- `batch::put_decimal` meets its contract: the digits are copied. Assumes nothing.
+-- `answers::put_decimal` meets its contract: the digits are copied. Assumes nothing.
 use borrow.Author.Needs.{needs}
-use Rattle.batch.proofs.Writing.{digits-written}
-use Rattle.batch.proofs.put_decimal.Statement.{statement}
-use Rattle.batch.proofs.put_decimal.Tie as tie
+use Rattle.answers.proofs.Writing.{digits-written}
+use Rattle.answers.proofs.put_decimal.Statement.{statement}
+use Rattle.answers.proofs.put_decimal.Tie as tie
 
 digits-of-requires : tie.Need-digits-of-requires
 digits-of-requires c κs = search needs

@@ -1,20 +1,21 @@
 -- Numbers and answers written into a buffer, digit by digit and part by part. Assumes nothing.
 use Prim.Native.Nat.{ℕ, zero, suc, _+_, _-_, _/_, _%_, _≤_, _<_}
-use native.Mathlib.Numerals.{sub-one, add-one}
+use native.Mathlib.Numerals.{sub-one}
 use native.Mathlib.Omega.{arith}
 use mathlib.Core.Path.{_≡_, refl, ap, sym, _∙_}
 use mathlib.Core.List.{[], _∷_, _++_}
 use lib.Dec.{ltb}
-use lib.ListN.{length, set, take, drop, getD, length-set, length-drop, length-append}
-use lib.Seq.{drop-cons, getD-set-same, drop-set-lt, take-suc, take-all, getD-drop, length-take-le}
+use lib.ListN.{length, set, take, drop, length-set, length-drop, length-append}
+use lib.Seq.{drop-cons, getD-set-same, drop-set-lt, take-all}
 use borrow.Author.Tests.{lt-ltb, le-ltb}
 use Rattle.text.specs.Bytes.{Bytes, bytes}
 use Rattle.rules.specs.Values.{decimal}
 use Rattle.rules.proofs.Choices.{chosen, passed-over, either}
 use Rattle.lent.specs.Splice.{splice}
-use Rattle.lent.proofs.Writes.{splice-length, splice-append, splice-cons, splice-drop-behind}
-use Rattle.batch.specs.Format.{space, newline}
-use Rattle.batch.specs.Answers.{decimalOf, spaced, refusedAnswer, deckAnswer}
+use Rattle.lent.proofs.Writes.{splice-length, splice-append, splice-cons}
+use Rattle.rules.specs.Lexemes.{space}
+use Rattle.rules.specs.Fields.{newline}
+use Rattle.answers.specs.Answers.{decimalOf, spaced, refusedAnswer, deckAnswer}
 
 -- ---- a number's digits, from the last to the first
 
@@ -108,26 +109,22 @@ module _ (out : Bytes) {o p : Bytes} where
       let whole : end ≡ length s = i ∙ (ap (λ (k : ℕ). k + length (spaced line)) b ∙ sym (length-append (w ++ spaced number) (spaced line))) in
       ended out s end (joined out (w ++ spaced number) (spaced line) behind (joined out w (spaced number) 8 e f refl) g b) whole
 
--- ---- bytes moved to the front
+-- an answer lies in the buffer that it was written to
+module _ (out : Bytes) (room : 64 ≤ length out) {new : Bytes} {end : ℕ} where
+  pub deck-fits : (n : ℕ) → new ≡ splice out 0 (deckAnswer n) → end ≡ length (deckAnswer n) → end ≤ length new
+  unfolding deckAnswer
+  deck-fits n e h =
+      let long = as-long out 0 (deckAnswer n) e in
+      let short = spaced-short n in
+      let size = h ∙ (length-append (bytes " DECK" ++ spaced n) (newline ∷ []) ∙ ap (λ (k : ℕ). k + 1) (length-append (bytes " DECK") (spaced n))) in
+      omega (arith, long, short, size, room)
 
-module _ (old : Bytes) (from i : ℕ) where
-  abbrev moved : Bytes
-  moved = take i (drop from old)
-
-  -- what is read is still as it was: only places before it are written
-  read-ahead : length moved ≡ i → getD (splice old 0 moved) (from + i) 0 ≡ getD (drop from old) i 0
-  read-ahead e =
-      let now = splice old 0 moved in
-      let turned : from + i ≡ i + from = omega arith in
-      ap (λ (k : ℕ). getD now k 0) turned ∙ (sym (getD-drop i now from 0) ∙ (ap (λ (l : Bytes). getD l from 0) (splice-drop-behind old 0 moved i (omega (arith, e))) ∙ (getD-drop i old from 0 ∙ (ap (λ (k : ℕ). getD old k 0) (sym turned) ∙ sym (getD-drop from old i 0)))))
-
-  pub keep-on : (now : Bytes) → now ≡ splice old 0 moved → from + i < length old → set now i (getD now (from + i) 0) ≡ splice old 0 (take (i + 1) (drop from old))
-  keep-on now e h =
-      let behind : i < length (drop from old) = rw length-drop (omega (arith, h)) in
-      let size : length moved ≡ i = length-take-le i (drop from old) (omega (arith, behind)) in
-      let read = ap (λ (l : Bytes). getD l (from + i) 0) e ∙ read-ahead size in
-      ap (λ (l : Bytes). set l i (getD now (from + i) 0)) e ∙ (ap (set (splice old 0 moved) i) read ∙ (byte-behind old moved 0 i (getD (drop from old) i 0) (omega (arith, size)) ∙ ap (splice old 0) (sym (rw add-one (take-suc (drop from old) i 0 behind)))))
-
-pub keep-starts : (old : Bytes) (from : ℕ) → old ≡ splice old 0 (take 0 (drop from old))
-unfolding splice
-keep-starts old from = refl
+  pub refused-fits : (number line : ℕ) → new ≡ splice out 0 (refusedAnswer number line) → end ≡ length (refusedAnswer number line) → end ≤ length new
+  unfolding refusedAnswer
+  refused-fits number line e h =
+      let long = as-long out 0 (refusedAnswer number line) e in
+      let short = spaced-short number in
+      let short2 = spaced-short line in
+      let both = length-append (bytes " LIBRARY" ++ spaced number) (spaced line) ∙ ap (λ (k : ℕ). k + length (spaced line)) (length-append (bytes " LIBRARY") (spaced number)) in
+      let size = h ∙ (length-append ((bytes " LIBRARY" ++ spaced number) ++ spaced line) (newline ∷ []) ∙ ap (λ (k : ℕ). k + 1) both) in
+      omega (arith, long, short, short2, size, room)

@@ -3,7 +3,8 @@ use Prim.Native.Nat.{ℕ}
 use mathlib.Core.List.{[], _∷_, _++_}
 use Rattle.text.specs.Bytes.{Bytes, bytes}
 use Rattle.rules.specs.Values.{decimal}
-use Rattle.batch.specs.Format.{space, newline}
+use Rattle.rules.specs.Lexemes.{space}
+use Rattle.rules.specs.Fields.{newline}
 
 -- a number in decimal, no leading zeros: 20 digits hold every number of 64 bits
 unfoldable pub decimalOf : ℕ → Bytes
