@@ -19,7 +19,7 @@ use Rattle.deck.proofs.Lists.{map-map}
 use Rattle.names.specs.Names.{namesIn, slotByte}
 use Rattle.names.proofs.Slots.{byte-resolved}
 use Rattle.coding.specs.Coded.{codeBy}
-use Rattle.shapes.specs.Does.{doesNumber}
+use Rattle.forms.specs.Numbers.{doesNumber}
 use Rattle.shapes.specs.declared.Shape.{Shape as Kept}
 use Rattle.shapes.specs.Shapes.{part, Spelt}
 use Rattle.writing.specs.Bytes.{counted, lineBytes, targetOf}
