@@ -14,14 +14,14 @@ use Rattle.rules.specs.Lexemes.{lexed, isLong}
 use Rattle.rules.specs.Fields.{Fields, fieldsOf, statementFields, isEmpty, startsWith}
 use Rattle.rules.specs.Statement.{Set, setA, Statement, macro, mend, mexit, local, global, set, aif, ago, anop, actr, model, statementOf}
 use Rattle.rules.specs.Form.{isFormed}
-use Rattle.rules.specs.Library.{operationOf, atPrototype, inBody, isOneSymbol, startSymbol, startSymbols, ofKind, operandParts, localsBy, globalsBy, localsOn, globalsOn, declaredIn, Names, namesIn, firsts, parameterNames, withGlobals}
+use Rattle.rules.specs.Library.{operationOf, atPrototype, inBody, isOneSymbol, startSymbols, ofKind, operandParts, localsBy, globalsBy, localsOn, globalsOn, declaredIn, Names, namesIn, firsts, parameterNames, withGlobals}
 use Rattle.rules.specs.Faults.{hasLongSymbol, isLongSequence, declaresWrongly, isMacroName, beforeEquals, hasBadPrototypeName, setNames, isDeclared, hasOtherKind, hasBadBodyName, hasBadName, isGoodPrototype, isIllFormed, kindsOf, isPast, isOverLimit}
 use Rattle.rules.proofs.Choices.{and-right}
 use Rattle.rules.proofs.Logic.{or-left, or-right}
 use Rattle.rules.proofs.Symbols.{firsts-append, length-firsts}
 use Rattle.rules.proofs.OneKind.{declared-in-turn}
 use Rattle.rules.proofs.ReadLines.{written-in}
-use Rattle.rules.proofs.Accepted.{Faultless, around, Stands, good-names}
+use Rattle.rules.proofs.Accepted.{Faultless, around, good-names}
 use Rattle.rules.proofs.Walked.{with-append, Lines, end, next, body-of}
 use Rattle.rules.proofs.Within.{few-locals}
 use Rattle.declaring.specs.Declared.{symbolsIn}
@@ -165,7 +165,7 @@ lines-fresh (next {before = before} {l = l} {ls = ls} more e f b) =
     let xs = firsts (declaredIn globalsOn before) in
     let t = firsts (declaredIn globalsOn ls) in
     let q : firsts (declaredIn globalsOn (before ++ (l ∷ []))) ≡ xs ++ firsts (globalsOn l) =
-        ap firsts (declared-in-turn globalsOn before (l ∷ []) ∙ ap (declaredIn globalsOn before ++_) (append-nil (globalsOn l))) ∙ firsts-append (declaredIn globalsOn before) (globalsOn l) in
+    ap firsts (declared-in-turn globalsOn before (l ∷ []) ∙ ap (declaredIn globalsOn before ++_) (append-nil (globalsOn l))) ∙ firsts-append (declaredIn globalsOn before) (globalsOn l) in
     subst (Fresh xs) (sym (firsts-append (globalsOn l) (declaredIn globalsOn ls)))
     (fresh-append xs (firsts (globalsOn l)) t (line-fresh f) (subst (λ (x : List Bytes). Fresh x t) q (lines-fresh b)))
 

@@ -1,16 +1,15 @@
 -- Tables when the lines of a body were put into them one after another. Assumes nothing.
-use Prim.Native.Nat.{ℕ, _+_, _≤_}
+use Prim.Native.Nat.{_+_}
 use native.Mathlib.Omega.{arith}
-use mathlib.Core.Path.{_≡_, refl, ap, sym, _∙_, subst}
+use mathlib.Core.Path.{_≡_, ap, sym, _∙_, subst}
 use mathlib.Core.List.{List, [], _∷_, _++_, append-assoc, append-nil}
 use lib.ListN.{length, length-append}
 use Rattle.text.specs.Bytes.{Bytes}
-use Rattle.rules.specs.Statement.{Set}
 use Rattle.rules.specs.Library.{localsOn, globalsOn, declaredIn, namesIn, withGlobals}
 use Rattle.rules.proofs.Walked.{with-append}
 use Rattle.collecting.specs.declared.Rows.{Rows as Counts}
-use Rattle.collecting.specs.Collected.{Sizes, Room, Declared, Declares, Counted}
-use Rattle.collecting.specs.Bodies.{Short, AllShort, Fits, Agrees, DeclaresBehind}
+use Rattle.collecting.specs.Collected.{Sizes, Room, Declares, Counted}
+use Rattle.collecting.specs.Bodies.{Fits, DeclaresBehind}
 use Rattle.collecting.proofs.Lines.{declared-as, declared-line}
 
 -- the lines of a place on, when the lines are told otherwise

@@ -1,5 +1,5 @@
 -- Names of which none stands there twice are no more than those that they are among. Assumes nothing.
-use Prim.Native.Nat.{ℕ, suc, _+_, _≤_}
+use Prim.Native.Nat.{suc, _+_, _≤_}
 use native.Mathlib.Omega.{arith}
 use mathlib.Core.Path.{_≡_, refl, ap, sym, _∙_, subst}
 use mathlib.Core.Bool.{Bool, true, false, _&&_, _||_}
@@ -10,7 +10,6 @@ use Rattle.text.specs.Bytes.{Bytes, bytes, same}
 use Rattle.text.proofs.Same.{same-is}
 use Rattle.rules.specs.Choice.{choose, any}
 use Rattle.rules.specs.Fields.{startsWith}
-use Rattle.rules.specs.Statement.{Set}
 use Rattle.rules.specs.Calls.{isAmong}
 use Rattle.rules.specs.Library.{firsts, withGlobals}
 use Rattle.rules.specs.Faults.{declaresWrongly}
@@ -72,7 +71,7 @@ no-more ys [] xs rest k f a = omega arith
 no-more ys (n ∷ ns) xs rest k f a =
     let less = one-less n rest (k n (f .0) ∙ a .0) in
     let ih = no-more ys ns (xs ++ (n ∷ [])) (without n rest)
-        (λ z h. others-stay n z rest (or-left (same z n) _ (not-behind z xs (n ∷ []) h)) ∙ k z (not-front z xs (n ∷ []) h)) (f .1) (a .1) in
+    (λ z h. others-stay n z rest (or-left (same z n) _ (not-behind z xs (n ∷ []) h)) ∙ k z (not-front z xs (n ∷ []) h)) (f .1) (a .1) in
     omega (arith, less, ih)
 
 pub fresh-few : (ys ns : List Bytes) → Fresh [] ns → All (λ n. any (same n) ys ≡ true) ns → length ns ≤ length ys

@@ -1,7 +1,7 @@
 -- A line by its places and its word: its symbols fit into the tables, and these hold them then. Assumes nothing.
-use Prim.Native.Nat.{ℕ, suc, _+_, _*_, _-_, _≤_, _<_}
+use Prim.Native.Nat.{ℕ, _+_, _*_, _-_, _≤_, _<_}
 use native.Mathlib.Omega.{arith}
-use mathlib.Core.Path.{_≡_, refl, ap, sym, _∙_}
+use mathlib.Core.Path.{_≡_, refl, ap, _∙_}
 use mathlib.Core.Bool.{true, false}
 use mathlib.Core.List.{List, [], _∷_, _++_}
 use lib.ListN.{length, take, drop, replicate, length-take}
@@ -79,10 +79,11 @@ module _ (l : Bytes) (rows : Counts) (own global shared kinds : Bytes) where
             let v = local-word word h k in
             let n = local-line l c e f word w v in
             let m = kind-count (v .kind) (symbolsIn operand) (n .0) in
-            let z = ap length (n .1) in
-            (declares-locals l rows own global shared kinds (v .kind) (symbolsIn operand) (n .0) (n .1) (room .few-own) (room .sizes .kinds-size) r own₁ kinds₁ a b
-            (d ∙ ap (λ (m : ℕ). splice kinds (rows .own) (replicate (length (symbolsIn operand)) m)) (v .code)),
-            (omega (arith, a, m), (omega (arith, z), omega (arith, z))))
+            let z = ap length (n .1) in (
+              declares-locals l rows own global shared kinds (v .kind) (symbolsIn operand) (n .0) (n .1) (room .few-own) (room .sizes .kinds-size) r own₁ kinds₁ a b
+                  (d ∙ ap (λ (m : ℕ). splice kinds (rows .own) (replicate (length (symbolsIn operand)) m)) (v .code)),
+              (omega (arith, a, m), (omega (arith, z), omega (arith, z))),
+            )
 
       module _ (h : 6 ≤ word) (k : word < 9) where
         pub globals-fit : ((rows .global + length (take (c .remarks - c .operand) (drop (c .operand) l))) * 8 ≤ length global)
@@ -94,9 +95,13 @@ module _ (l : Bytes) (rows : Counts) (own global shared kinds : Bytes) where
             let n = global-line l c e f word w v in
             let s = short-operand (omega (arith, h)) k in (
               omega (arith, s, room .few-global, room .sizes .global-size),
-              (omega (arith, s, room .few-shared, room .sizes .shared-size),
-              (omega (arith, s, room .few-shared, room .sizes .kinds-size),
-              (kind-short (v .kind) (symbolsIn operand) (n .1 .0) (room .short-globals), omega (arith, k)))),
+              (
+                omega (arith, s, room .few-shared, room .sizes .shared-size),
+                (
+                  omega (arith, s, room .few-shared, room .sizes .kinds-size),
+                  (kind-short (v .kind) (symbolsIn operand) (n .1 .0) (room .short-globals), omega (arith, k)),
+                ),
+              ),
             )
 
         pub globals-declare : (r : Counts) (global₁ shared₁ kinds₁ : Bytes) → r .own ≡ rows .own
@@ -108,6 +113,7 @@ module _ (l : Bytes) (rows : Counts) (own global shared kinds : Bytes) where
         globals-declare r global₁ shared₁ kinds₁ o g s n adds =
             let v = global-word word h k in
             let m = global-line l c e f word w v in
-            let d = kind-count (v .kind) (symbolsIn operand) (m .1 .0) in
-            (declares-globals l rows own global shared kinds (v .kind) (symbolsIn operand) (m .0) (m .1 .0) (m .1 .1) (word - 6) (v .code) r global₁ shared₁ kinds₁ o g n adds,
-            (omega (arith, o, ap length (m .0)), (omega (arith, g, d), omega (arith, s, d))))
+            let d = kind-count (v .kind) (symbolsIn operand) (m .1 .0) in (
+              declares-globals l rows own global shared kinds (v .kind) (symbolsIn operand) (m .0) (m .1 .0) (m .1 .1) (word - 6) (v .code) r global₁ shared₁ kinds₁ o g n adds,
+              (omega (arith, o, ap length (m .0)), (omega (arith, g, d), omega (arith, s, d))),
+            )

@@ -10,12 +10,12 @@ use Rattle.text.specs.Words.{words, wordNumber}
 use Rattle.rules.specs.Choice.{any}
 use Rattle.rules.specs.Lexemes.{isLong}
 use Rattle.rules.specs.Fields.{isRemark, Fields, noFields, fieldsOf, statementFields}
-use Rattle.rules.specs.Statement.{Set, local, global, model, statements, statementOf}
+use Rattle.rules.specs.Statement.{Set, global, model, statements, statementOf}
 use Rattle.rules.specs.Grammar.{symbol}
 use Rattle.rules.specs.Library.{operationOf, ofKind, operandParts, localsBy, globalsBy, localsOn, globalsOn, Names, firsts, parameterNames, withGlobals, namesIn as namesOf}
 use Rattle.rules.specs.ByLines.{ownNames}
 use Rattle.rules.proofs.Choices.{chosen, passed-over}
-use Rattle.rules.proofs.Symbols.{firsts-append, length-firsts}
+use Rattle.rules.proofs.Symbols.{length-firsts}
 use Rattle.rules.specs.Faults.{declaresWrongly}
 use Rattle.deck.specs.Coders.{setCode}
 use Rattle.lent.specs.Splice.{splice}
@@ -32,7 +32,7 @@ use Rattle.filling.specs.Added.{Adds}
 use Rattle.filling.proofs.Lines.{locals-held, globals-held}
 use Rattle.collecting.specs.declared.Rows.{Rows as Counts}
 use Rattle.collecting.specs.Collected.{Declared, Declares}
-use Rattle.collecting.proofs.Words.{LocalWord, local-word, GlobalWord, global-word, Neither, before-declarations, behind-declarations, four-letters}
+use Rattle.collecting.proofs.Words.{LocalWord, GlobalWord, Neither, before-declarations, behind-declarations}
 
 -- ---- the names of one kind, back
 
@@ -72,9 +72,9 @@ module _ (l : Bytes) (rows : Counts) (own global′ shared kinds : Bytes) where
     declares-locals p q room size r own₁ kinds₁ e n w names globals h a b c _ _ _ =
         let count : length (localsOn l) ≡ length ns = ap length p ∙ kind-length k ns in
         let held = locals-held h k ns (take (r * 8) own₁) kinds₁ n
-            (w ∙ ap (λ (m : ℕ). splice kinds m (replicate (length ns) (numberOf (symbol k)))) (sym a)) (omega (arith, a, room, count)) (omega (arith, size)) in
+        (w ∙ ap (λ (m : ℕ). splice kinds m (replicate (length ns) (numberOf (symbol k)))) (sym a)) (omega (arith, a, room, count)) (omega (arith, size)) in
         let mine : length (ownNames (addLocals names (ofKind k ns))) ≡ r =
-            omega (arith, ap length (held .mine), ap length n, ap length (h .mine), length-append (namesIn (take (rows .own * 8) own)) ns, a, e) in
+        omega (arith, ap length (held .mine), ap length n, ap length (h .mine), length-append (namesIn (take (rows .own * 8) own)) ns, a, e) in
         declared-as (sym ((λ i. addGlobals (addLocals names (p i)) (q i)) ∙ no-globals (addLocals names (ofKind k ns)))) (sym (ap (withGlobals globals) q))
         (record { held = held; own = mine; global = b; shared = c })
 
@@ -88,8 +88,8 @@ module _ (l : Bytes) (rows : Counts) (own global′ shared kinds : Bytes) where
         let back : firsts (globalsOn l) ≡ ns = ap firsts q ∙ names-back k ns in
         let x = adds k globals code (h .ours) (h .our-kinds) c in
         let held = globals-held h k ns (take (r .global * 8) global₁) (take (r .shared * 8) shared₁) kinds₁ n (x .listed)
-            (ap (λ (m : ℕ). take m (drop 64 kinds₁)) (sym (x .counted)) ∙ x .numbered) (x .kept) (omega (arith, few, ap length new))
-            (ap (any _) (sym back) ∙ other k s) (ap (declaresWrongly _) (sym back) ∙ wrong) in
+        (ap (λ (m : ℕ). take m (drop 64 kinds₁)) (sym (x .counted)) ∙ x .numbered) (x .kept) (omega (arith, few, ap length new))
+        (ap (any _) (sym back) ∙ other k s) (ap (declaresWrongly _) (sym back) ∙ wrong) in
         declared-as (sym ((λ i. addGlobals (addLocals names (p i)) (q i)) ∙ ap (λ (m : Names). addGlobals m (ofKind k ns)) (no-locals names))) (sym new)
         (record {
           held = subst (λ (m : ℕ). Held (addGlobals names (ofKind k ns)) (withGlobals globals (ofKind k ns)) (take (m * 8) own) (take (r .global * 8) global₁) (take (r .shared * 8) shared₁) kinds₁) (sym o) held;

@@ -1,8 +1,8 @@
 -- The places of a line's fields stand in order, and a declaration's operand is at least six bytes shorter than its line. Assumes nothing.
-use Prim.Native.Nat.{ℕ, suc, _+_, _-_, _≤_, _<_}
+use Prim.Native.Nat.{ℕ, suc, _-_, _≤_, _<_}
 use native.Mathlib.Nat.{not-suc-le-zero}
 use native.Mathlib.Omega.{arith}
-use mathlib.Core.Path.{_≡_, refl, ap, sym, _∙_, subst}
+use mathlib.Core.Path.{_≡_, refl, ap, sym, subst}
 use mathlib.Core.Bool.{Bool, true, false, not}
 use mathlib.Core.List.{List, [], _∷_}
 use lib.Dec.{eqb, ltb}
@@ -54,13 +54,13 @@ pub record Ordered (l : Bytes) (c : Marks) : Type 0 where
 pub ordered : (l : Bytes) (c : Marks) → c ≡ cutsOf l → Ordered l c
 unfolding cutsOf
 ordered l c e = subst (Ordered l) (sym e) (
-  let g = run-inside l 0 (omega arith) false in
-  let o = run-inside l (runEnd false l 0) (g .1) true in
-  let s = run-inside l (runEnd true l (runEnd false l 0)) (o .1) false in
-  let a = run-inside l (runEnd false l (runEnd true l (runEnd false l 0))) (s .1) true in
-  let r = operand-inside l (runEnd true l (runEnd false l (runEnd true l (runEnd false l 0)))) (a .1) _ in
-  record { name-inside = g .1; operation-first = s .0; operand-behind = a .0; remarks-behind = r .0; remarks-inside = r .1 }
-)
+    let g = run-inside l 0 (omega arith) false in
+    let o = run-inside l (runEnd false l 0) (g .1) true in
+    let s = run-inside l (runEnd true l (runEnd false l 0)) (o .1) false in
+    let a = run-inside l (runEnd false l (runEnd true l (runEnd false l 0))) (s .1) true in
+    let r = operand-inside l (runEnd true l (runEnd false l (runEnd true l (runEnd false l 0)))) (a .1) _ in
+    record { name-inside = g .1; operation-first = s .0; operand-behind = a .0; remarks-behind = r .0; remarks-inside = r .1 }
+    )
 
 -- ---- spaces between fields
 
@@ -87,17 +87,17 @@ gap-behind l at i h =
 pub operand-short : (l : Bytes) (c : Marks) → c ≡ cutsOf l → length (take (c .space - c .operation) (drop (c .operation) l)) ≡ 4 → c .remarks - c .operand ≤ length l - 6
 unfolding cutsOf
 operand-short l c e = subst (λ (m : Marks). length (take (m .space - m .operation) (drop (m .operation) l)) ≡ 4 → m .remarks - m .operand ≤ length l - 6) (sym e) (λ four.
-  let g = run-inside l 0 (omega arith) false in
-  let gap = runEnd false l 0 in
-  let o = run-inside l gap (g .1) true in
-  let operation = runEnd true l gap in
-  let s = run-inside l operation (o .1) false in
-  let room = runEnd false l operation in
-  let a = run-inside l room (s .1) true in
-  let operand = runEnd true l room in
-  let r = operand-inside l operand (a .1) (holdsSpaces (take (room - operation) (drop operation l))) in
-  let t = length-take (room - operation) (drop operation l) in
-  let b : gap < operation = gap-behind l 0 (omega arith) (omega (arith, g .1, o .0, s .1, t, four)) in
-  by (ltb room (length l))
-  (λ q. let d = gap-behind l operation (o .1) (ltb-true room (length l) q) in omega (arith, b, t, four, d, r .0, r .1))
-  (λ q. let d = ltb-false room (length l) q in omega (arith, b, t, four, d, s .1, a .0, r .0, r .1)))
+    let g = run-inside l 0 (omega arith) false in
+    let gap = runEnd false l 0 in
+    let o = run-inside l gap (g .1) true in
+    let operation = runEnd true l gap in
+    let s = run-inside l operation (o .1) false in
+    let room = runEnd false l operation in
+    let a = run-inside l room (s .1) true in
+    let operand = runEnd true l room in
+    let r = operand-inside l operand (a .1) (holdsSpaces (take (room - operation) (drop operation l))) in
+    let t = length-take (room - operation) (drop operation l) in
+    let b : gap < operation = gap-behind l 0 (omega arith) (omega (arith, g .1, o .0, s .1, t, four)) in
+    by (ltb room (length l))
+    (λ q. let d = gap-behind l operation (o .1) (ltb-true room (length l) q) in omega (arith, b, t, four, d, r .0, r .1))
+    (λ q. let d = ltb-false room (length l) q in omega (arith, b, t, four, d, s .1, a .0, r .0, r .1)))

@@ -1,15 +1,16 @@
 -- A prototype's parameters by its places: they fit into the tables, and these hold the names with which its macro starts. Assumes nothing.
-use Prim.Native.Nat.{ℕ, suc, _+_, _*_, _-_, _≤_}
+use Prim.Native.Nat.{ℕ, _+_, _*_, _-_, _≤_}
 use native.Mathlib.Nat.{sub-zero}
 use native.Mathlib.Omega.{arith}
 use mathlib.Core.Path.{_≡_, refl, ap, sym, _∙_}
 use mathlib.Core.Bool.{false}
-use mathlib.Core.List.{List, [], _∷_, _++_, append-nil}
+use mathlib.Core.List.{List, [], _∷_, _++_, map, append-nil}
 use lib.ListN.{length, take, drop, replicate, length-append, length-replicate, length-take}
 use Rattle.text.specs.Bytes.{Bytes}
 use Rattle.rules.specs.Choice.{any}
 use Rattle.rules.specs.Lexemes.{Lex, byte, mark, ref, lone, lexed, isLong}
 use Rattle.rules.specs.Fields.{Fields, fieldsOf}
+use Rattle.rules.specs.Statement.{Set}
 use Rattle.rules.specs.Library.{startSymbol, startSymbols, operandParts, declaredIn, namesIn as namesOf, firsts, parameterNames}
 use Rattle.rules.specs.ByLines.{ownNames}
 use Rattle.lent.specs.Splice.{splice}
@@ -19,10 +20,11 @@ use Rattle.fields.specs.declared.Cuts.{Cuts as Marks}
 use Rattle.fields.specs.Cuts.{cutsOf, fieldsBy}
 use Rattle.fields.proofs.Cut.{fields-cut}
 use Rattle.declaring.specs.Declared.{symbolsIn}
+use Rattle.filling.specs.Added.{number}
 use Rattle.filling.proofs.Lines.{start-held}
 use Rattle.filling.proofs.Prototypes.{parameters-listed, start-short, not-long}
-use Rattle.collecting.specs.Collected.{Prototype, Starts}
-use Rattle.collecting.proofs.Places.{Ordered, ordered}
+use Rattle.collecting.specs.Collected.{Declared, Prototype, Starts}
+use Rattle.collecting.proofs.Places.{ordered}
 
 -- a part starts with one symbol at most
 one-each : (p : List (Lex Bytes)) → length (startSymbol p) ≤ 1
@@ -69,8 +71,10 @@ module _ (l own kinds : Bytes) (h : Prototype l own kinds) (c : Marks) (e : c �
   parameters-fit =
       let o = ordered l c e in (
         omega (arith, length-take (c .remarks - c .operand) (drop (c .operand) l), o .remarks-inside, h .line-length, h .own-size),
-        (ap (any isLong) (sym first-are) ∙ start-short (lexed false (fieldsOf l .name)) (h .short-name),
-        ap (any isLong) (sym symbols-are) ∙ not-long (fieldsOf l) (h .short-parts) (h .good-parts)),
+        (
+          ap (any isLong) (sym first-are) ∙ start-short (lexed false (fieldsOf l .name)) (h .short-name),
+          ap (any isLong) (sym symbols-are) ∙ not-long (fieldsOf l) (h .short-parts) (h .good-parts),
+        ),
       )
 
   parameters : startSymbol (lexed false name) ++ symbolsIn operand ≡ parameterNames (namesOf l [])
@@ -103,3 +107,12 @@ module _ (l own kinds : Bytes) (h : Prototype l own kinds) (c : Marks) (e : c �
           start-held l globals (take (r * 8) own₁) shared kinds₁ (n ∙ parameters)
           ((λ i. take ((m ∙ sym k) i) (g i)) ∙ (splice-read kinds 0 (replicate r 0) (omega (arith, k, few-rows, h .kinds-size)) ∙ ap (λ (j : ℕ). replicate j 0) (sym m)))
           a (ap (take (length globals)) kinds-stay ∙ b) (omega (arith, m, few-rows)) few
+
+-- the tables with which a macro's body is begun: its parameters, no globals of its own, and those of the library so far
+pub starts-declared : (l kinds₀ own₁ kinds₁ : Bytes) (r : ℕ) → Starts l kinds₀ r own₁ kinds₁ → r ≡ length (ownNames (namesOf l []))
+    → (globals : List (Bytes × Set)) (k : ℕ) (global₁ shared₁ : Bytes) → namesIn (take (k * 8) shared₁) ≡ firsts globals
+    → take (length globals) (drop 64 kinds₀) ≡ map number globals → length globals ≤ 32 → length globals ≡ k
+    → Declared (namesOf l []) globals (record { own = r; global = 0; shared = k }) own₁ global₁ shared₁ kinds₁
+unfolding namesOf declaredIn
+starts-declared l kinds₀ own₁ kinds₁ r s e globals k global₁ shared₁ a b few c =
+    record { held = s globals (take (k * 8) shared₁) a b few; own = sym e; global = refl; shared = c }

@@ -8,11 +8,11 @@ use mathlib.Core.List.{List, [], _∷_}
 use lib.Dec.{eqb, ltb}
 use lib.ListN.{length, getD, List·getD-eq-default}
 use borrow.Author.Tests.{eqb-true, eqb-false, ltb-true, ltb-false}
-use Rattle.text.specs.Bytes.{Bytes, bytes, same}
+use Rattle.text.specs.Bytes.{Bytes, same}
 use Rattle.text.specs.Words.{words, placeAmong, wordNumber}
 use Rattle.text.proofs.Same.{same-is}
 use Rattle.rules.specs.Fields.{Fields}
-use Rattle.rules.specs.Statement.{Set, setA, setB, setC, Statement, local, global, model, statements}
+use Rattle.rules.specs.Statement.{Set, setA, setB, setC, local, global, model, statements}
 use Rattle.rules.specs.Grammar.{symbol}
 use Rattle.rules.specs.Library.{localsBy, globalsBy}
 use Rattle.rules.proofs.Choices.{by}

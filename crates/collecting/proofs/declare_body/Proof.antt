@@ -40,7 +40,7 @@ part-declare-line-end : tie.Need-part-declare-line-end Inv-loop μ-loop
 part-declare-line-end c = search needs
 
 declare-line-requires : tie.Need-declare-line-requires Inv-loop μ-loop
-declare-line-requires c κs = 
+declare-line-requires c κs =
     let a = c .before .before .before .before .before .before .before .before .before .before .before .before .before .args in
     let b = c .before .before .before .before .before .before .before .loop in
     let lt : b .at < length (a .body .now) = c .before .before .before .before .before .before .loop-test .taken in
@@ -56,7 +56,7 @@ loop-less : tie.Need-loop-less Inv-loop μ-loop
 loop-less c = search needs
 
 loop-again : tie.Need-loop-again Inv-loop μ-loop
-loop-again c = 
+loop-again c =
     let a = c .before .before .before .before .before .before .before .before .before .before .before .before .before .before .before .before .before .before .before .before .before .before .args in
     let b = c .before .before .before .before .before .before .before .before .before .before .before .before .before .before .before .before .loop in
     let lt : b .at < length (a .body .now) = c .before .before .before .before .before .before .before .before .before .before .before .before .before .before .before .loop-test .taken in
@@ -84,7 +84,7 @@ same-length-4 : tie.Need-same-length-4 Inv-loop μ-loop
 same-length-4 c = search needs
 
 returns : tie.Need-returns Inv-loop μ-loop
-returns c = 
+returns c =
     let a = c .before .before .before .before .before .before .before .args in
     let b = c .before .loop in
     let past : length (a .body .now) ≤ b .at = search needs in

@@ -20,7 +20,7 @@ same-length-3 : tie.Need-same-length-3
 same-length-3 c = search needs
 
 returns : tie.Need-returns
-returns c = 
+returns c =
     let e = c .before .before .before .before .before .before .before .before .before .append-symbols .ensures in
     let f = c .before .before .before .before .add-globals .ensures in
     ((refl, (e .0, f .0)), (e .1, f .1))

@@ -25,7 +25,7 @@ same-length-2 : tie.Need-same-length-2
 same-length-2 c = search needs
 
 returns : tie.Need-returns
-returns c = 
+returns c =
     let a = c .before .before .before .before .before .before .before .before .before .before .before .args in
     let e = c .before .before .before .before .before .before .append-symbols .ensures in
     let n : c .before .before .before .before .before .before .append-symbols .result - a .rows ≡ length (symbolsIn (a .operand .now)) = omega (arith, e .0) in

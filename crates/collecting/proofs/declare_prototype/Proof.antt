@@ -28,10 +28,16 @@ part-declare-parameters-end-2 : tie.Need-part-declare-parameters-end-2
 part-declare-parameters-end-2 c = ordered (c .before .before .before .before .before .before .args .line .now) (c .before .before .cuts-of .result) (c .before .before .cuts-of .ensures) .remarks-inside
 
 declare-parameters-requires : tie.Need-declare-parameters-requires
-declare-parameters-requires c κs = parameters-fit (c .before .before .before .before .before .before .before .args .line .now) (c .before .before .before .before .before .before .before .args .own .now) (c .before .before .before .before .before .before .before .args .kinds .now) (c .before .before .before .before .before .before .before .pre) (c .before .before .before .cuts-of .result) (c .before .before .before .cuts-of .ensures)
+declare-parameters-requires c κs =
+    let a = c .before .before .before .before .before .before .before .args in
+    let k = c .before .before .before .cuts-of in
+    parameters-fit (a .line .now) (a .own .now) (a .kinds .now) (c .before .before .before .before .before .before .before .pre) (k .result) (k .ensures)
 
 fill-requires : tie.Need-fill-requires
-fill-requires c κs = omega (arith, few-rows (c .before .before .before .before .before .before .before .before .before .before .before .args .line .now) (c .before .before .before .before .before .before .before .before .before .before .before .args .own .now) (c .before .before .before .before .before .before .before .before .before .before .before .args .kinds .now) (c .before .before .before .before .before .before .before .before .before .before .before .pre) (c .before .before .before .before .before .before .before .cuts-of .result) (c .before .before .before .before .before .before .before .cuts-of .ensures) _ (c .before .before .before .declare-parameters .ensures .0), c .before .before .before .before .before .before .before .before .before .before .before .pre .kinds-size)
+fill-requires c κs =
+    let a = c .before .before .before .before .before .before .before .before .before .before .before .args in
+    let k = c .before .before .before .before .before .before .before .cuts-of in
+    omega (arith, few-rows (a .line .now) (a .own .now) (a .kinds .now) (c .before .before .before .before .before .before .before .before .before .before .before .pre) (k .result) (k .ensures) _ (c .before .before .before .declare-parameters .ensures .0), c .before .before .before .before .before .before .before .before .before .before .before .pre .kinds-size)
 
 same-length : tie.Need-same-length
 same-length c = search needs
@@ -40,11 +46,13 @@ same-length-2 : tie.Need-same-length-2
 same-length-2 c = search needs
 
 returns : tie.Need-returns
-returns c = 
+returns c =
+    let a = c .before .before .before .before .before .before .before .before .before .before .before .before .before .before .args in
+    let k = c .before .before .before .before .before .before .before .before .before .before .cuts-of in
     let e = c .before .before .before .before .before .before .declare-parameters .ensures in
-    let k = c .before .before .fill .ensures in (
-      starts (c .before .before .before .before .before .before .before .before .before .before .before .before .before .before .args .line .now) (c .before .before .before .before .before .before .before .before .before .before .before .before .before .before .args .own .now) (c .before .before .before .before .before .before .before .before .before .before .before .before .before .before .args .kinds .now) (c .before .before .before .before .before .before .before .before .before .before .before .before .before .before .pre) (c .before .before .before .before .before .before .before .before .before .before .cuts-of .result) (c .before .before .before .before .before .before .before .before .before .before .cuts-of .ensures) _ (e .0) _ k _ (e .1),
-      (counted (c .before .before .before .before .before .before .before .before .before .before .before .before .before .before .args .line .now) (c .before .before .before .before .before .before .before .before .before .before .before .before .before .before .args .own .now) (c .before .before .before .before .before .before .before .before .before .before .before .before .before .before .args .kinds .now) (c .before .before .before .before .before .before .before .before .before .before .before .before .before .before .pre) (c .before .before .before .before .before .before .before .before .before .before .cuts-of .result) (c .before .before .before .before .before .before .before .before .before .before .cuts-of .ensures) _ (e .0), kinds-stay (c .before .before .before .before .before .before .before .before .before .before .before .before .before .before .args .line .now) (c .before .before .before .before .before .before .before .before .before .before .before .before .before .before .args .own .now) (c .before .before .before .before .before .before .before .before .before .before .before .before .before .before .args .kinds .now) (c .before .before .before .before .before .before .before .before .before .before .before .before .before .before .pre) (c .before .before .before .before .before .before .before .before .before .before .cuts-of .result) (c .before .before .before .before .before .before .before .before .before .before .cuts-of .ensures) _ (e .0) _ k),
+    let w = c .before .before .fill .ensures in (
+      starts (a .line .now) (a .own .now) (a .kinds .now) (c .before .before .before .before .before .before .before .before .before .before .before .before .before .before .pre) (k .result) (k .ensures) _ (e .0) _ w _ (e .1),
+      (counted (a .line .now) (a .own .now) (a .kinds .now) (c .before .before .before .before .before .before .before .before .before .before .before .before .before .before .pre) (k .result) (k .ensures) _ (e .0), kinds-stay (a .line .now) (a .own .now) (a .kinds .now) (c .before .before .before .before .before .before .before .before .before .before .before .before .before .before .pre) (k .result) (k .ensures) _ (e .0) _ w),
     )
 
 pub declare-prototype-spec : {M : Type 1} → statement M
