@@ -1,0 +1,10 @@
+pub mod Growth
+pub mod Few
+pub mod Answers
+pub mod Declarations
+pub mod Turns
+pub mod Words
+pub mod Passing
+pub mod Lines
+pub mod Ends
+pub mod Globals
