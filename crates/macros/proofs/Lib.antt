@@ -1,2 +1,3 @@
 pub mod Macros
 pub mod Written
+pub mod Names

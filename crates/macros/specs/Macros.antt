@@ -49,13 +49,17 @@ pub record Settled (gs : List (Bytes × Set)) (prototype : Bytes) (ls : List Byt
   pub few-own : length (ownNames (namesOf prototype [])) + length (declaredIn localsOn ls) ≤ 64
   pub few-globals : length (declaredIn globalsOn ls) ≤ 16
 
--- what writing a macro needs
-pub record Ready (prototype body : Bytes) (globals : ℕ) (own global shared kinds code out : Bytes) (at : ℕ) : Type 0 where
+-- what collecting a macro's names needs
+pub record Collectable (gs : List (Bytes × Set)) (prototype body : Bytes) (globals : ℕ) (own global shared kinds : Bytes) : Type 0 where
   pub sizes : Sizes own global shared kinds
   pub prototype-good : Prototype prototype own kinds
-  pub states : isRemark prototype ≡ false
-  pub shared-known : Shared (known globals shared kinds) globals shared kinds
+  pub shared-known : Shared gs globals shared kinds
   pub few-shared : globals ≤ 16
-  pub settled : Settled (known globals shared kinds) prototype (linesOf body)
+  pub settled : Settled gs prototype (linesOf body)
+
+-- what writing a macro needs
+pub record Ready (prototype body : Bytes) (globals : ℕ) (own global shared kinds code out : Bytes) (at : ℕ) : Type 0 where
+  pub collectable : Collectable (known globals shared kinds) prototype body globals own global shared kinds
+  pub states : isRemark prototype ≡ false
   pub all-ready : AllReady body code
   pub room : at + length (macroPut (known globals shared kinds) (macroOf prototype body)) ≤ length out

@@ -189,7 +189,7 @@ fn own_fault(
     )
 }
 
-// The lowest number that it has.
+// The lowest number that the line up to `end` has, the limit of lines being one of the tests; 0 where it has none.
 fn fault(
     library: &[u8],
     walk: Walk,

@@ -1,5 +1,4 @@
 -- `walking::check` meets its contract: the walk stands where the rules stand, line for line. Assumes nothing.
-use borrow.Author.Needs.{needs}
 use Prim.Native.Nat.{_-_}
 use native.Mathlib.Omega.{arith}
 use mathlib.Core.Path.{_≡_, refl, _∙_}
@@ -27,7 +26,7 @@ loop-holds : tie.Need-loop-holds Inv-loop μ-loop
 loop-holds c = (starts _ _ _ _ _ _ (c .before .before .before .before .before .before .before .pre .0), refl, refl, refl, refl, refl, refl)
 
 line-end-requires : tie.Need-line-end-requires Inv-loop μ-loop
-line-end-requires c κs = search needs
+line-end-requires c κs = tt
 
 fault-requires : tie.Need-fault-requires Inv-loop μ-loop
 fault-requires c κs = let e = c .before .before .before .before .before .before .before .before .before .loop .inv .6 in let n = c .before .before .before .before .before .before .before .before .before .before .before .before .before .before .before .before .before .pre .1 in (at-line _ _ _ _ _ _ _ (c .before .before .before .before .before .before .before .before .before .loop .inv .0) _ (c .before .before .before .before .before .before .before .if1 .taken) (c .before .before .before .before .before .before .line-end .ensures .0), omega (arith, e, n))
@@ -51,7 +50,7 @@ same-length-5 : tie.Need-same-length-5 Inv-loop μ-loop
 same-length-5 c = c .before .before .before .before .before .before .before .before .before .before .before .before .before .before .loop .inv .5
 
 same-length-6 : tie.Need-same-length-6 Inv-loop μ-loop
-same-length-6 c = search needs
+same-length-6 c = c .before .before .before .code .given ∙ c .before .before .before .before .before .before .before .before .before .before .before .before .before .before .loop .inv .6
 
 returns : tie.Need-returns Inv-loop μ-loop
 returns c = let w = c .before .before .before .before .before .before .before .before .before .before .before .before .before .before .loop .inv .0 in (is-faulty _ _ _ _ _ _ _ w _ (c .before .before .before .before .before .before .before .before .before .before .before .before .if1 .taken) (c .before .before .before .before .before .before .before .before .before .before .before .line-end .ensures .0) _ (c .before .before .before .before .fault .ensures (w .around) (w .follows)) (c .before .if2 .taken), tt)

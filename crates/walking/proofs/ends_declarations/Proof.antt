@@ -1,17 +1,16 @@
 -- `walking::ends_declarations` meets its contract: the words' numbers tell. Assumes nothing.
-use borrow.Author.Needs.{needs}
 use Rattle.walking.proofs.Words.{ends-told}
 use Rattle.walking.proofs.ends_declarations.Statement.{statement}
 use Rattle.walking.proofs.ends_declarations.Tie as tie
 
 is-remark-requires : tie.Need-is-remark-requires
-is-remark-requires c κs = search needs
+is-remark-requires c κs = tt
 
 operation-of-requires : tie.Need-operation-of-requires
-operation-of-requires c κs = search needs
+operation-of-requires c κs = tt
 
 word-requires : tie.Need-word-requires
-word-requires c κs = search needs
+word-requires c κs = tt
 
 returns : tie.Need-returns
 returns c = ends-told _ _ _ _ (c .before .before .is-remark .ensures) (c .before .operation-of .ensures) (c .word .ensures)

@@ -1,5 +1,4 @@
 -- `walking::own_fault` meets its contract: the tests of a line, by the place where the walk stands. Assumes nothing.
-use borrow.Author.Needs.{needs}
 use native.Mathlib.Omega.{arith}
 use Rattle.walking.proofs.Lines.{outer-told, prototype-told, body-told, line-there, title-rows, body-rows}
 use Rattle.walking.proofs.own_fault.Statement.{statement}
@@ -15,7 +14,7 @@ part-line-end : tie.Need-part-line-end
 part-line-end c = let h = line-there _ _ _ _ _ _ _ _ (c .before .before .before .before .before .before .before .pre .0) in omega (arith, h .1)
 
 outer-fault-requires : tie.Need-outer-fault-requires
-outer-fault-requires c κs = search needs
+outer-fault-requires c κs = tt
 
 returns : tie.Need-returns
 returns c = λ a f. outer-told _ _ _ _ _ _ _ _ a f _ (c .before .if1 .taken) (c .outer-fault .ensures)
@@ -33,7 +32,7 @@ part-prototype-fault-end : tie.Need-part-prototype-fault-end
 part-prototype-fault-end c = let h = title-rows _ _ _ _ _ _ _ _ (c .before .before .before .before .before .before .before .before .before .before .before .before .before .pre .0) in let n = c .before .before .before .before .before .before .before .before .before .before .before .before .before .pre .0 .walked .sizes .titles-size in omega (arith, h, n)
 
 prototype-fault-requires : tie.Need-prototype-fault-requires
-prototype-fault-requires c κs = search needs
+prototype-fault-requires c κs = tt
 
 returns-2 : tie.Need-returns-2
 returns-2 c = λ a f. prototype-told _ _ _ _ _ _ _ _ a f _ (c .before .before .before .if2 .taken) (c .prototype-fault .ensures)
@@ -99,7 +98,7 @@ body-fault-requires : tie.Need-body-fault-requires
 body-fault-requires c κs = let h = body-rows _ _ _ _ _ _ _ _ (c .before .before .before .before .before .before .before .before .before .before .before .before .before .before .before .before .before .before .before .before .before .before .pre .0) (c .before .before .before .before .before .before .before .before .before .before .before .before .if1 .left) (c .before .before .before .before .before .before .before .before .before .before .if2 .left) in (omega (arith, h .1 .1 .0), c .before .before .before .before .before .before .before .before .before .before .before .before .before .before .before .before .before .before .before .before .before .before .pre .1)
 
 same-length : tie.Need-same-length
-same-length c = search needs
+same-length c = c .before .code .given
 
 returns-3 : tie.Need-returns-3
 returns-3 c = λ a f. body-told _ _ _ _ _ _ _ _ a f (c .before .before .before .before .before .before .before .before .before .before .before .before .before .before .before .if1 .left) (c .before .before .before .before .before .before .before .before .before .before .before .before .before .if2 .left) _ (c .before .before .before .before .before .before .before .before .before .before .before .before .before .before .before .before .before .before .before .before .before .before .before .before .before .pre .0 .in-file) (c .before .before .before .before .before .before .before .before .before .before .before .before .before .before .before .before .before .before .before .before .before .before .before .before .before .pre .0 .end-is) (c .before .before .body-fault .ensures)
