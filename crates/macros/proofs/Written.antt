@@ -35,6 +35,6 @@ module _ (prototype body own global shared kinds : Bytes) (ks : List Set) (k : k
       let n : first + 2 + length kinds ≡ first + length s = kinds-end kinds ks k first in (
         omega (arith, f, e, n, length-append h (s ++ b), length-append s b),
         u
-        ∙ ((λ i. splice (v i) (n i) b)
-        ∙ (splice-append new first s b ∙ ((λ i. splice (w i) (f i) (s ++ b)) ∙ splice-append out at h (s ++ b)))),
+            ∙ ((λ i. splice (v i) (n i) b)
+            ∙ (splice-append new first s b ∙ ((λ i. splice (w i) (f i) (s ++ b)) ∙ splice-append out at h (s ++ b)))),
       )

@@ -50,6 +50,6 @@ module _ (library before : Bytes) where
     unfolding listed listedBy bufferAfter
     deck-right room out after h k w c =
         let cut : take (size - 0) (drop 0 out) ≡ deckOf library =
-              ap (λ (n : ℕ). take n out) (sub-zero size ∙ s) ∙ (ap (take (length (deckOf library))) (w ∙ splice-whole room (deckOf library) k) ∙ take-at (deckOf library) (drop (length (deckOf library)) room) (length (deckOf library)) refl) in
+        ap (λ (n : ℕ). take n out) (sub-zero size ∙ s) ∙ (ap (take (length (deckOf library))) (w ∙ splice-whole room (deckOf library) k) ∙ take-at (deckOf library) (drop (length (deckOf library)) room) (length (deckOf library)) refl) in
         right-by (deck (deckOf library)) (Deck size) after (is-accepted ∙ chosen _ _ (le-leb (length (deckOf library)) (length before) (omega arith)))
         (ap (λ (n : ℕ). listing 0 (n ∷ [])) s) (c ∙ (ap (splice before 0) cut ∙ splice-whole before (deckOf library) (omega arith)))
