@@ -1,11 +1,11 @@
 -- A library's macros by the places where they stand, and their bytes in a deck from a place on. Assumes nothing.
 use Prim.Native.Nat.{ℕ, _-_}
-use mathlib.Core.List.{List, _∷_, _++_, map}
+use mathlib.Core.List.{List, [], _∷_, _++_, map}
 use lib.ListN.{length, take, drop}
 use Rattle.text.specs.Bytes.{Bytes}
 use Rattle.rules.specs.Fields.{linesOf}
 use Rattle.rules.specs.Statement.{Set}
-use Rattle.rules.specs.Library.{Macro, outer, macrosFrom}
+use Rattle.rules.specs.Library.{Macro, outer, macrosFrom, seconds}
 use Rattle.rules.specs.ByLines.{reading}
 use Rattle.deck.specs.Coding.{two, four, putAll, listOf}
 use Rattle.deck.specs.Coders.{kind, macro, versionByte}

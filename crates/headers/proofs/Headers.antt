@@ -26,7 +26,7 @@ use Rattle.declaring.specs.Declared.{symbolsIn}
 use Rattle.declaring.proofs.Symbols.{symbols-few}
 use Rattle.lent.specs.Splice.{splice}
 use Rattle.writing.specs.Bytes.{titleBytes}
-use Rattle.writing.proofs.Writes.{both-written, both-end, counted-length}
+use Rattle.writing.proofs.Writes.{both-written, counted-length}
 use Rattle.writing.proofs.Coded.{title-length}
 use Rattle.headers.specs.Headers.{headerOf}
 
@@ -142,17 +142,3 @@ module _ (globals : List (Bytes × Set)) (r : Reading) (p : Bytes) where
       (λ i. string .put (t i) ++ (flag .put (not (isEmpty (n i .name))) ++ (two .put (length (n i .positionals)) ++ (listOf (pair string string) .put (n i .keywords) ++ rest))))
       ∙ sym (four-and (string .put (operationOf p)) (flag .put (not (isEmpty (namesIn p [] .name)))) (two .put (length (namesIn p [] .positionals)))
       (listOf (pair string string) .put (namesIn p [] .keywords)) rest)
-
-  -- its three parts, one behind another
-  module _ (t : r .title ≡ operationOf p) (n : r .names ≡ namesIn p (r .body)) (at end end₂ : ℕ) (e : end ≡ at + length (headerOf p)) (f : end₂ ≡ end + length (listOf kind .put (seconds (r .names .locals)))) where
-    pub macro-end : (end₃ : ℕ) → end₃ ≡ end₂ + length (listOf line .put (map (resolvedLine r globals) (r .body))) → end₃ ≡ at + length (macro .put (deckMacro globals r))
-    macro-end end₃ g =
-        both-end [] at (headerOf p) rest end e end₃ (both-end [] end (listOf kind .put (seconds (r .names .locals))) (listOf line .put (map (resolvedLine r globals) (r .body))) end₂ f end₃ g)
-        ∙ ap (λ (s : Bytes). at + length s) (sym (macro-parts t n))
-
-    pub macro-written : (out new new₂ new₃ : Bytes) → new ≡ splice out at (headerOf p) → new₂ ≡ splice new end (listOf kind .put (seconds (r .names .locals)))
-        → new₃ ≡ splice new₂ end₂ (listOf line .put (map (resolvedLine r globals) (r .body))) → new₃ ≡ splice out at (macro .put (deckMacro globals r))
-    macro-written out new new₂ new₃ w v u =
-        both-written out at (headerOf p) rest end e new new₃ w
-        (both-written new end (listOf kind .put (seconds (r .names .locals))) (listOf line .put (map (resolvedLine r globals) (r .body))) end₂ f new₂ new₃ v u)
-        ∙ ap (splice out at) (sym (macro-parts t n))

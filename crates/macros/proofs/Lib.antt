@@ -1,3 +1,5 @@
-pub mod Macros
-pub mod Written
-pub mod Names
+pub mod Settled
+pub mod Members
+pub mod Tables
+pub mod Parts
+pub mod Loop

@@ -1,65 +1,95 @@
--- A macro's bytes in a deck, by tables of its names; and what writing them needs. Assumes nothing.
-use Prim.Native.Nat.{ℕ, _+_, _*_, _≤_, _<_}
+-- A macro of an accepted library, the tables that hold that library's globals, and what writing the macro needs. Assumes nothing.
+use Prim.Native.Nat.{ℕ, _+_, _*_, _-_, _≤_}
 use mathlib.Core.Path.{_≡_}
-use mathlib.Core.Bool.{Bool, true, false}
+use mathlib.Core.Bool.{false}
 use mathlib.Core.List.{List, [], _∷_, _++_, map}
 use lib.ListN.{length, take, drop}
 use Rattle.text.specs.Bytes.{Bytes}
+use Rattle.rules.specs.Limits.{lineLimit}
 use Rattle.rules.specs.Fields.{linesOf, isRemark}
 use Rattle.rules.specs.Statement.{Set}
 use Rattle.rules.specs.Grammar.{symbol}
-use Rattle.rules.specs.Library.{Macro, namesIn as namesOf, firsts, declaredIn, localsOn, globalsOn, withGlobals}
-use Rattle.rules.specs.ByLines.{ownNames}
-use Rattle.rules.proofs.Accepted.{Body}
+use Rattle.rules.specs.Library.{Macro, outer, macrosFrom, firsts, globalsOf}
+use Rattle.rules.specs.ByLines.{reading}
+use Rattle.rules.specs.Faults.{accepted, verdict}
 use Rattle.deck.specs.Coding.{listOf}
 use Rattle.deck.specs.Coders.{kind}
 use Rattle.names.specs.Names.{namesIn}
 use Rattle.grammar.specs.Kinds.{numberOf}
 use Rattle.declaring.specs.Declared.{globalsIn}
-use Rattle.collecting.specs.Collected.{Sizes, Prototype}
-use Rattle.collecting.specs.Bodies.{AllShort, Agrees}
+use Rattle.collecting.specs.declared.Rows.{Rows as Counts}
+use Rattle.collecting.specs.Collected.{Sizes}
 use Rattle.headers.specs.Headers.{headerOf}
 use Rattle.bodies.specs.Lines.{bodyIn}
 use Rattle.bodies.specs.Room.{AllReady}
 use Rattle.decks.specs.Decks.{macroPut}
 
--- a macro's bytes: its head, the kinds of its locals, its lines
-unfoldable pub macroIn : Bytes → Bytes → List Set → Bytes → Bytes → Bytes → Bytes
-macroIn prototype body locals own global shared = headerOf prototype ++ (listOf kind .put locals ++ bodyIn own global shared body)
+-- ---- a macro of a library
 
+-- the globals of a library
+abbrev pub globalsOfLibrary : Bytes → List (Bytes × Set)
+globalsOfLibrary library = globalsOf [] (map (λ r. r .names) (map reading (macrosFrom outer (linesOf library))))
+
+-- a macro of an accepted library with these globals
+pub record Member (globals : List (Bytes × Set)) (m : Macro) : Type 0 where
+  pub library : Bytes
+  pub is-accepted : verdict library ≡ accepted
+  pub globals-are : globals ≡ globalsOfLibrary library
+  pub before : List Macro
+  pub behind : List Macro
+  pub macros-are : macrosFrom outer (linesOf library) ≡ before ++ (m ∷ behind)
+
+-- a macro by the bytes of its prototype and of its body
 abbrev pub macroOf : Bytes → Bytes → Macro
 macroOf prototype body = record { prototype = prototype; body = linesOf body }
 
--- the library's globals, as the first rows of the tables have them
-abbrev pub known : ℕ → Bytes → Bytes → List (Bytes × Set)
-known globals shared kinds = globalsIn (take (globals * 8) shared) kinds
+-- ---- tables
 
--- the library's globals stand in the first rows, their kinds from 64 on
-pub record Shared (gs : List (Bytes × Set)) (globals : ℕ) (shared kinds : Bytes) : Type 0 where
-  pub listed : namesIn (take (globals * 8) shared) ≡ firsts gs
-  pub numbered : take globals (drop 64 kinds) ≡ map (λ g. numberOf (symbol (g .1))) gs
-  pub counted : length gs ≡ globals
+-- the first `rows` rows are these globals, and their kinds stand from place 64 on
+pub record Holds (globals : List (Bytes × Set)) (rows : ℕ) (shared kinds : Bytes) : Type 0 where
+  pub counted : length globals ≡ rows
+  pub listed : namesIn (take (rows * 8) shared) ≡ firsts globals
+  pub numbered : take rows (drop 64 kinds) ≡ map (λ g. numberOf (symbol (g .1))) globals
 
--- a macro without fault whose globals are all among these
-pub record Settled (gs : List (Bytes × Set)) (prototype : Bytes) (ls : List Bytes) : Type 0 where
-  pub sound : Body prototype [] ls
-  pub agrees : Agrees prototype gs [] ls
-  pub adds-none : withGlobals gs (declaredIn globalsOn ls) ≡ gs
-  pub short-lines : AllShort ls
-  pub few-own : length (ownNames (namesOf prototype [])) + length (declaredIn localsOn ls) ≤ 64
-  pub few-globals : length (declaredIn globalsOn ls) ≤ 16
+-- the globals that the first rows are
+abbrev pub globalsAt : ℕ → Bytes → Bytes → List (Bytes × Set)
+globalsAt rows shared kinds = globalsIn (take (rows * 8) shared) kinds
 
--- what collecting a macro's names needs
-pub record Collectable (gs : List (Bytes × Set)) (prototype body : Bytes) (globals : ℕ) (own global shared kinds : Bytes) : Type 0 where
+-- the sizes of the tables, and of a buffer for a line's codes
+pub record Lent (own global shared kinds code : Bytes) : Type 0 where
   pub sizes : Sizes own global shared kinds
-  pub prototype-good : Prototype prototype own kinds
-  pub shared-known : Shared gs globals shared kinds
-  pub few-shared : globals ≤ 16
-  pub settled : Settled gs prototype (linesOf body)
+  pub codes : lineLimit ≤ length code
 
--- what writing a macro needs
-pub record Ready (prototype body : Bytes) (globals : ℕ) (own global shared kinds code out : Bytes) (at : ℕ) : Type 0 where
-  pub collectable : Collectable (known globals shared kinds) prototype body globals own global shared kinds
-  pub states : isRemark prototype ≡ false
-  pub all-ready : AllReady body code
-  pub room : at + length (macroPut (known globals shared kinds) (macroOf prototype body)) ≤ length out
+-- ---- what is written
+
+-- a macro's bytes by its prototype, the kinds of its locals, and the tables of its names
+unfoldable pub partsPut : Bytes → List Set → Bytes → Bytes → Bytes → Bytes → Bytes
+partsPut prototype locals own global shared body = headerOf prototype ++ (listOf kind .put locals ++ bodyIn own global shared body)
+
+pub record Parts (prototype body kinds own global shared code out : Bytes) (at : ℕ) : Type 0 where
+  pub short : length prototype ≤ lineLimit
+  pub no-remark : isRemark prototype ≡ false
+  pub lines : AllReady body code
+  pub locals : List Set
+  pub locals-are : kinds ≡ map (λ k. numberOf (symbol k)) locals
+  pub few : length kinds ≤ 64
+  pub room : at + length (partsPut prototype locals own global shared body) ≤ length out
+
+-- the same by whole tables, of which the first rows are meant
+abbrev pub tablesPut : Bytes → List Set → Counts → Bytes → Bytes → Bytes → Bytes → Bytes
+tablesPut prototype locals rows own global shared body =
+    partsPut prototype locals (take (rows .own * 8) own) (take (rows .global * 8) global) (take (rows .shared * 8) shared) body
+
+pub record Tabled (prototype body : Bytes) (parameters : ℕ) (rows : Counts) (own global shared kinds code out : Bytes) (at : ℕ) : Type 0 where
+  pub sizes : Sizes own global shared kinds
+  pub order : parameters ≤ rows .own
+  pub few-own : rows .own ≤ 64
+  pub few-global : rows .global ≤ 32
+  pub few-shared : rows .shared ≤ 32
+  pub parts : Parts prototype body (take (rows .own - parameters) (drop parameters kinds)) (take (rows .own * 8) own) (take (rows .global * 8) global) (take (rows .shared * 8) shared) code out at
+
+pub record Writable (globals : List (Bytes × Set)) (m : Macro) (rows : ℕ) (own global shared kinds code out : Bytes) (at : ℕ) : Type 0 where
+  pub member : Member globals m
+  pub holds : Holds globals rows shared kinds
+  pub lent : Lent own global shared kinds code
+  pub room : at + length (macroPut globals m) ≤ length out

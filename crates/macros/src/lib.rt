@@ -1,25 +1,20 @@
-// A macro's bytes in a deck, and those of all macros.
+// Macros in a deck: one macro's bytes, those of all macros of a library, and the whole deck.
 ghost use mathlib.Core.Path.{_≡_};
-ghost use mathlib.Core.Bool.{false};
-ghost use mathlib.Core.List.{List, [], map};
-ghost use Prim.Native.Nat.{_+_, _≤_, _<_};
-ghost use lib.ListN.{length};
-ghost use Rattle.rules.specs.Fields.{linesOf, isRemark};
+ghost use mathlib.Core.List.{List, map};
+ghost use Prim.Native.Nat.{_+_, _-_, _≤_};
+ghost use lib.ListN.{length, take, drop};
+ghost use Rattle.rules.specs.Fields.{linesOf};
 ghost use Rattle.rules.specs.Statement.{Set};
 ghost use Rattle.rules.specs.Grammar.{symbol};
+ghost use Rattle.rules.specs.Faults.{accepted, verdict};
 ghost use Rattle.grammar.specs.Kinds.{numberOf};
+ghost use Rattle.deck.specs.Translation.{deckOf};
 ghost use Rattle.lent.specs.Splice.{splice};
-ghost use Rattle.headers.specs.Headers.{headerOf};
-ghost use Rattle.bodies.specs.Lines.{bodyIn};
-ghost use Rattle.bodies.specs.Room.{AllReady};
-ghost use Rattle.rules.specs.Library.{namesIn as namesOf, declaredIn, globalsOn, withGlobals};
-ghost use Rattle.rules.specs.ByLines.{ownNames};
-ghost use Rattle.decks.specs.Decks.{macroPut};
-ghost use Rattle.collecting.specs.Collected.{Declared};
-ghost use Rattle.macros.specs.Macros.{macroIn, macroOf, known, Shared, Collectable, Ready};
+ghost use Rattle.decks.specs.Decks.{macroPut, macrosPut};
+ghost use Rattle.macros.specs.Macros.{globalsOfLibrary, macroOf, Holds, globalsAt, Lent, partsPut, Parts, tablesPut, Tabled, Writable};
 
-// A macro's bytes from `at` on, by the kinds of its locals and tables of its names; answers where they end.
-fn put_collected(
+// A macro's bytes by its prototype, the kinds of its locals and the tables of its names, from `at` on; answers where they end.
+fn put_parts(
     prototype: &[u8],
     body: &[u8],
     kinds: &[u8],
@@ -30,46 +25,49 @@ fn put_collected(
     out: &mut [u8],
     at: usize,
 ) -> usize
-    requires { ⌜ (length (now prototype) ≤ 71) × ((isRemark (now prototype) ≡ false) × (AllReady (now body) (now code) × ((length (now kinds) < 65536) × (at + (length (headerOf (now prototype)) + (length (now kinds) + 2 + length (bodyIn (now own) (now global) (now shared) (now body)))) ≤ length (now out))))) ⌝ }
-    ensures { λ r. ⌜ ((ks : List Set) → now (kinds .entry) ≡ map (λ k. numberOf (symbol k)) ks → (r ≡ at + length (macroIn (now (prototype .entry)) (now (body .entry)) ks (now (own .entry)) (now (global .entry)) (now (shared .entry)))) × (now (out .exit) ≡ splice (now (out .entry)) at (macroIn (now (prototype .entry)) (now (body .entry)) ks (now (own .entry)) (now (global .entry)) (now (shared .entry))))) ⌝ }
+    requires { ⌜ Parts (now prototype) (now body) (now kinds) (now own) (now global) (now shared) (now code) (now out) at ⌝ }
+    ensures { λ r. ⌜ ((ks : List Set) → now (kinds .entry) ≡ map (λ k. numberOf (symbol k)) ks → (r ≡ at + length (partsPut (now (prototype .entry)) ks (now (own .entry)) (now (global .entry)) (now (shared .entry)) (now (body .entry)))) × (now (out .exit) ≡ splice (now (out .entry)) at (partsPut (now (prototype .entry)) ks (now (own .entry)) (now (global .entry)) (now (shared .entry)) (now (body .entry))))) ⌝ }
 {
-    let first = headers::put_header(prototype, out, at);
-    writing::put_kinds(out, first, kinds);
-    let second = first + 2 + kinds.len();
-    bodies::put_body(body, own, global, shared, code, out, second)
+    let head = headers::put_header(prototype, out, at);
+    let end = writing::put_kinds(out, head, kinds);
+    bodies::put_body(body, own, global, shared, code, out, end)
 }
 
-// How many parameters a macro has, and how many rows its tables.
-struct Collected {
-    parameters: usize,
-    rows: collecting::Rows,
-}
-
-// The names of a macro, collected in tables; `globals` rows of `shared` hold the library's globals.
-fn collect(
+// The same by whole tables: a macro with so many parameters, and the rows that its names have.
+fn put_tables(
     prototype: &[u8],
     body: &[u8],
-    globals: usize,
-    own: &mut [u8],
-    global: &mut [u8],
-    shared: &mut [u8],
-    kinds: &mut [u8],
-) -> Collected
-    requires { ⌜ Collectable (known globals (now shared) (now kinds)) (now prototype) (now body) globals (now own) (now global) (now shared) (now kinds) ⌝ }
-    ensures { λ r. ⌜ r .parameters ≡ length (ownNames (namesOf (now (prototype .entry)) [])) ⌝ }
-    ensures { λ r. ⌜ Declared (namesOf (now (prototype .entry)) (linesOf (now (body .entry)))) (withGlobals (known globals (now (shared .entry)) (now (kinds .entry))) (declaredIn globalsOn (linesOf (now (body .entry))))) (r .rows) (now (own .exit)) (now (global .exit)) (now (shared .exit)) (now (kinds .exit)) ⌝ }
+    parameters: usize,
+    rows: collecting::Rows,
+    own: &[u8],
+    global: &[u8],
+    shared: &[u8],
+    kinds: &[u8],
+    code: &mut [u8],
+    out: &mut [u8],
+    at: usize,
+) -> usize
+    requires { ⌜ Tabled (now prototype) (now body) parameters rows (now own) (now global) (now shared) (now kinds) (now code) (now out) at ⌝ }
+    ensures { λ r. ⌜ ((ks : List Set) → take (rows .own - parameters) (drop parameters (now (kinds .entry))) ≡ map (λ k. numberOf (symbol k)) ks → (r ≡ at + length (tablesPut (now (prototype .entry)) ks rows (now (own .entry)) (now (global .entry)) (now (shared .entry)) (now (body .entry)))) × (now (out .exit) ≡ splice (now (out .entry)) at (tablesPut (now (prototype .entry)) ks rows (now (own .entry)) (now (global .entry)) (now (shared .entry)) (now (body .entry))))) ⌝ }
 {
-    let parameters = collecting::declare_prototype(prototype, own, kinds);
-    let start = collecting::Rows {
-        own: parameters,
-        global: 0,
-        shared: globals,
-    };
-    let rows = collecting::declare_body(body, start, own, global, shared, kinds);
-    Collected { parameters, rows }
+    let names = rows.own;
+    let mine = names * 8;
+    let theirs = rows.global * 8;
+    let ours = rows.shared * 8;
+    put_parts(
+        prototype,
+        body,
+        &kinds[parameters..names],
+        &own[..mine],
+        &global[..theirs],
+        &shared[..ours],
+        code,
+        out,
+        at,
+    )
 }
 
-// A macro's bytes from `at` on; answers where they end. The first `globals` rows of `shared` hold the library's globals, then as before.
+// A macro's bytes in a deck, from `at` on; answers where they end. Its names are put into the tables, behind the library's `globals` globals.
 pub fn put_macro(
     prototype: &[u8],
     body: &[u8],
@@ -82,26 +80,72 @@ pub fn put_macro(
     out: &mut [u8],
     at: usize,
 ) -> usize
-    requires { ⌜ Ready (now prototype) (now body) globals (now own) (now global) (now shared) (now kinds) (now code) (now out) at ⌝ }
-    ensures { λ r. ⌜ (r ≡ at + length (macroPut (known globals (now (shared .entry)) (now (kinds .entry))) (macroOf (now (prototype .entry)) (now (body .entry))))) × (now (out .exit) ≡ splice (now (out .entry)) at (macroPut (known globals (now (shared .entry)) (now (kinds .entry))) (macroOf (now (prototype .entry)) (now (body .entry))))) ⌝ }
-    ensures { λ _. ⌜ Shared (known globals (now (shared .entry)) (now (kinds .entry))) globals (now (shared .exit)) (now (kinds .exit)) ⌝ }
+    requires { ⌜ Writable (globalsAt globals (now shared) (now kinds)) (macroOf (now prototype) (now body)) globals (now own) (now global) (now shared) (now kinds) (now code) (now out) at ⌝ }
+    ensures { λ r. ⌜ r ≡ at + length (macroPut (globalsAt globals (now (shared .entry)) (now (kinds .entry))) (macroOf (now (prototype .entry)) (now (body .entry)))) ⌝ }
+    ensures { λ _. ⌜ now (out .exit) ≡ splice (now (out .entry)) at (macroPut (globalsAt globals (now (shared .entry)) (now (kinds .entry))) (macroOf (now (prototype .entry)) (now (body .entry)))) ⌝ }
+    ensures { λ _. ⌜ Holds (globalsAt globals (now (shared .entry)) (now (kinds .entry))) globals (now (shared .exit)) (now (kinds .exit)) ⌝ }
 {
-    let names = collect(prototype, body, globals, own, global, shared, kinds);
-    let first = names.parameters;
-    let rows = names.rows;
-    let last = rows.own;
-    let mine = rows.own * 8;
-    let theirs = rows.global * 8;
-    let ours = rows.shared * 8;
-    put_collected(
+    let parameters = collecting::declare_prototype(prototype, own, kinds);
+    let first = collecting::Rows {
+        own: parameters,
+        global: 0,
+        shared: globals,
+    };
+    let rows = collecting::declare_body(body, first, own, global, shared, kinds);
+    put_tables(
         prototype,
         body,
-        &kinds[first..last],
-        &own[..mine],
-        &global[..theirs],
-        &shared[..ours],
+        parameters,
+        rows,
+        own,
+        global,
+        shared,
+        kinds,
         code,
         out,
         at,
     )
+}
+
+// The bytes of all macros of an accepted library, from `at` on; answers where they end.
+pub fn put_macros(
+    library: &[u8],
+    globals: usize,
+    own: &mut [u8],
+    global: &mut [u8],
+    shared: &mut [u8],
+    kinds: &mut [u8],
+    code: &mut [u8],
+    out: &mut [u8],
+    at: usize,
+) -> usize
+    requires { ⌜ (verdict (now library) ≡ accepted) × (Lent (now own) (now global) (now shared) (now kinds) (now code) × Holds (globalsOfLibrary (now library)) globals (now shared) (now kinds)) ⌝ }
+    requires { ⌜ at + length (macrosPut (globalsOfLibrary (now library)) (now library) 0) ≤ length (now out) ⌝ }
+    ensures { λ r. ⌜ r ≡ at + length (macrosPut (globalsOfLibrary (now (library .entry))) (now (library .entry)) 0) ⌝ }
+    ensures { λ _. ⌜ now (out .exit) ≡ splice (now (out .entry)) at (macrosPut (globalsOfLibrary (now (library .entry))) (now (library .entry)) 0) ⌝ }
+{
+    let mut next = 0;
+    let mut to = at;
+    while next < library.len() {
+        let start = labels::prototype_start(library, next);
+        if library.len() <= start {
+            return to;
+        }
+        let end = lines::line_end(library, start);
+        let body = labels::past_newline(library, end);
+        next = labels::body_end(library, body);
+        to = put_macro(
+            &library[start..end],
+            &library[body..next],
+            globals,
+            own,
+            global,
+            shared,
+            kinds,
+            code,
+            out,
+            to,
+        );
+    }
+    to
 }

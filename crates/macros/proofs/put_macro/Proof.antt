@@ -1,85 +1,41 @@
--- `macros::put_macro` meets its contract: the names collected, and then the bytes by them. Assumes nothing.
+-- `put_macro` meets its contract: the tables hold the macro's names when its lines have declared them. Assumes nothing.
+use mathlib.Core.Path.{refl}
+use Rattle.collecting.proofs.Bodies.{sizes-as}
+use Rattle.macros.proofs.Members.{prototype-fits}
+use Rattle.macros.proofs.Tables.{started, body-room, collected, tabled, macro-done}
 use borrow.Author.Needs.{needs}
-use native.Mathlib.Omega.{arith}
-use mathlib.Core.Path.{sym}
-use lib.Seq.{length-take-le}
-use Rattle.macros.proofs.Macros.{bounds, cut-small, cut-room, macro-written, still-shared}
 use Rattle.macros.proofs.put_macro.Statement.{statement}
 use Rattle.macros.proofs.put_macro.Tie as tie
+use Rattle.macros.proofs.put_macro.Reads as reads
+use Rattle.macros.proofs.put_macro.Lts as lts
+use Rattle.collecting.proofs.declare_body.Reads as declare-body-reads
+use Rattle.collecting.proofs.declare_prototype.Reads as declare-prototype-reads
+use Rattle.macros.proofs.put_tables.Reads as put-tables-reads
 
-collect-requires : tie.Need-collect-requires
-collect-requires c κs = search needs
+declare-prototype-requires : tie.Need-declare-prototype-requires
+declare-prototype-requires c κs =
+    let h = c .before .before .before .before .before .before .before .before .before .before .pre in
+    let a = c .before .before .before .before .before .before .before .before .before .before .args in
+    prototype-fits (h .member) (a .own .now) (a .kinds .now) (h .lent .sizes .own-size) (h .lent .sizes .kinds-size)
 
-mul-mine : tie.Need-mul-mine
-mul-mine c = search needs
+declare-body-requires : tie.Need-declare-body-requires
+declare-body-requires c κs =
+    let h = c .before .before .before .before .before .before .before .before .before .before .before .before .before .before .before .before .before .before .before .pre in
+    let a = c .before .before .before .before .before .before .before .before .before .before .before .before .before .before .before .before .before .before .before .args in
+    let p = c .before .before .before .before .before .before .before .before .declare-prototype .ensures in
+    body-room (h .member) (h .holds) _ _ _ (p .1 .0) (a .global .now)
+    (sizes-as (a .own .now) (a .global .now) (a .shared .now) (a .kinds .now) _ _ _ _ (h .lent .sizes) (search needs) refl refl (search needs))
 
-mul-theirs : tie.Need-mul-theirs
-mul-theirs c =
-    let b = bounds _ _ _ _ _ _ _ _ (c .before .before .before .before .before .before .before .before .before .before .before .before .before .before .before .before .before .before .before .before .before .before .before .before .pre .collectable) _ _ _ _ _ _ (c .before .before .before .before .before .before .before .before .before .before .before .collect .ensures .0) (c .before .before .before .before .before .before .before .before .before .before .before .collect .ensures .1) in
-    let z = c .before .before .before .before .before .before .before .before .before .before .before .before .before .before .before .before .before .before .before .before .before .before .before .before .pre .collectable .sizes in
-    omega (arith, b .ordered, b .few-own, b .few-global, b .few-shared, z .own-size, z .global-size, z .shared-size, z .kinds-size)
-
-mul-ours : tie.Need-mul-ours
-mul-ours c = search needs
-
-sub-put-collected : tie.Need-sub-put-collected
-sub-put-collected c =
-    let b = bounds _ _ _ _ _ _ _ _ (c .before .before .before .before .before .before .before .before .before .before .before .before .before .before .before .before .before .before .before .before .before .before .before .before .before .pre .collectable) _ _ _ _ _ _ (c .before .before .before .before .before .before .before .before .before .before .before .before .collect .ensures .0) (c .before .before .before .before .before .before .before .before .before .before .before .before .collect .ensures .1) in
-    let z = c .before .before .before .before .before .before .before .before .before .before .before .before .before .before .before .before .before .before .before .before .before .before .before .before .before .pre .collectable .sizes in
-    omega (arith, b .ordered, b .few-own, b .few-global, b .few-shared, z .own-size, z .global-size, z .shared-size, z .kinds-size)
-
-part-put-collected-start : tie.Need-part-put-collected-start
-part-put-collected-start c =
-    let b = bounds _ _ _ _ _ _ _ _ (c .before .before .before .before .before .before .before .before .before .before .before .before .before .before .before .before .before .before .before .before .before .before .before .before .before .before .pre .collectable) _ _ _ _ _ _ (c .before .before .before .before .before .before .before .before .before .before .before .before .before .collect .ensures .0) (c .before .before .before .before .before .before .before .before .before .before .before .before .before .collect .ensures .1) in
-    let z = c .before .before .before .before .before .before .before .before .before .before .before .before .before .before .before .before .before .before .before .before .before .before .before .before .before .before .pre .collectable .sizes in
-    omega (arith, b .ordered, b .few-own, b .few-global, b .few-shared, z .own-size, z .global-size, z .shared-size, z .kinds-size)
-
-part-put-collected-end : tie.Need-part-put-collected-end
-part-put-collected-end c =
-    let b = bounds _ _ _ _ _ _ _ _ (c .before .before .before .before .before .before .before .before .before .before .before .before .before .before .before .before .before .before .before .before .before .before .before .before .before .before .pre .collectable) _ _ _ _ _ _ (c .before .before .before .before .before .before .before .before .before .before .before .before .before .collect .ensures .0) (c .before .before .before .before .before .before .before .before .before .before .before .before .before .collect .ensures .1) in
-    let z = c .before .before .before .before .before .before .before .before .before .before .before .before .before .before .before .before .before .before .before .before .before .before .before .before .before .before .pre .collectable .sizes in
-    omega (arith, b .ordered, b .few-own, b .few-global, b .few-shared, z .own-size, z .global-size, z .shared-size, z .kinds-size)
-
-slice-reshare-prefix-put-collected : tie.Need-slice-reshare-prefix-put-collected
-slice-reshare-prefix-put-collected c =
-    let b = bounds _ _ _ _ _ _ _ _ (c .before .before .before .before .before .before .before .before .before .before .before .before .before .before .before .before .before .before .before .before .before .before .before .before .before .before .before .pre .collectable) _ _ _ _ _ _ (c .before .before .before .before .before .before .before .before .before .before .before .before .before .before .collect .ensures .0) (c .before .before .before .before .before .before .before .before .before .before .before .before .before .before .collect .ensures .1) in
-    let z = c .before .before .before .before .before .before .before .before .before .before .before .before .before .before .before .before .before .before .before .before .before .before .before .before .before .before .before .pre .collectable .sizes in
-    omega (arith, b .ordered, b .few-own, b .few-global, b .few-shared, z .own-size, z .global-size, z .shared-size, z .kinds-size)
-
-slice-aggregate-put-collected : tie.Need-slice-aggregate-put-collected
-slice-aggregate-put-collected c =
-    let b = bounds _ _ _ _ _ _ _ _ (c .before .before .before .before .before .before .before .before .before .before .before .before .before .before .before .before .before .before .before .before .before .before .before .before .before .before .before .before .pre .collectable) _ _ _ _ _ _ (c .before .before .before .before .before .before .before .before .before .before .before .before .before .before .before .collect .ensures .0) (c .before .before .before .before .before .before .before .before .before .before .before .before .before .before .before .collect .ensures .1) in
-    let z = c .before .before .before .before .before .before .before .before .before .before .before .before .before .before .before .before .before .before .before .before .before .before .before .before .before .before .before .before .pre .collectable .sizes in
-    sym (length-take-le _ _ (omega (arith, b .ordered, b .few-own, b .few-global, b .few-shared, z .own-size, z .global-size, z .shared-size, z .kinds-size)))
-
-slice-reshare-prefix-put-collected-2 : tie.Need-slice-reshare-prefix-put-collected-2
-slice-reshare-prefix-put-collected-2 c =
-    let b = bounds _ _ _ _ _ _ _ _ (c .before .before .before .before .before .before .before .before .before .before .before .before .before .before .before .before .before .before .before .before .before .before .before .before .before .before .before .before .pre .collectable) _ _ _ _ _ _ (c .before .before .before .before .before .before .before .before .before .before .before .before .before .before .before .collect .ensures .0) (c .before .before .before .before .before .before .before .before .before .before .before .before .before .before .before .collect .ensures .1) in
-    let z = c .before .before .before .before .before .before .before .before .before .before .before .before .before .before .before .before .before .before .before .before .before .before .before .before .before .before .before .before .pre .collectable .sizes in
-    omega (arith, b .ordered, b .few-own, b .few-global, b .few-shared, z .own-size, z .global-size, z .shared-size, z .kinds-size)
-
-slice-aggregate-put-collected-2 : tie.Need-slice-aggregate-put-collected-2
-slice-aggregate-put-collected-2 c =
-    let b = bounds _ _ _ _ _ _ _ _ (c .before .before .before .before .before .before .before .before .before .before .before .before .before .before .before .before .before .before .before .before .before .before .before .before .before .before .before .before .before .pre .collectable) _ _ _ _ _ _ (c .before .before .before .before .before .before .before .before .before .before .before .before .before .before .before .before .collect .ensures .0) (c .before .before .before .before .before .before .before .before .before .before .before .before .before .before .before .before .collect .ensures .1) in
-    let z = c .before .before .before .before .before .before .before .before .before .before .before .before .before .before .before .before .before .before .before .before .before .before .before .before .before .before .before .before .before .pre .collectable .sizes in
-    sym (length-take-le _ _ (omega (arith, b .ordered, b .few-own, b .few-global, b .few-shared, z .own-size, z .global-size, z .shared-size, z .kinds-size)))
-
-slice-reshare-prefix-put-collected-3 : tie.Need-slice-reshare-prefix-put-collected-3
-slice-reshare-prefix-put-collected-3 c =
-    let b = bounds _ _ _ _ _ _ _ _ (c .before .before .before .before .before .before .before .before .before .before .before .before .before .before .before .before .before .before .before .before .before .before .before .before .before .before .before .before .before .pre .collectable) _ _ _ _ _ _ (c .before .before .before .before .before .before .before .before .before .before .before .before .before .before .before .before .collect .ensures .0) (c .before .before .before .before .before .before .before .before .before .before .before .before .before .before .before .before .collect .ensures .1) in
-    let z = c .before .before .before .before .before .before .before .before .before .before .before .before .before .before .before .before .before .before .before .before .before .before .before .before .before .before .before .before .before .pre .collectable .sizes in
-    omega (arith, b .ordered, b .few-own, b .few-global, b .few-shared, z .own-size, z .global-size, z .shared-size, z .kinds-size)
-
-slice-aggregate-put-collected-3 : tie.Need-slice-aggregate-put-collected-3
-slice-aggregate-put-collected-3 c =
-    let b = bounds _ _ _ _ _ _ _ _ (c .before .before .before .before .before .before .before .before .before .before .before .before .before .before .before .before .before .before .before .before .before .before .before .before .before .before .before .before .before .before .pre .collectable) _ _ _ _ _ _ (c .before .before .before .before .before .before .before .before .before .before .before .before .before .before .before .before .before .collect .ensures .0) (c .before .before .before .before .before .before .before .before .before .before .before .before .before .before .before .before .before .collect .ensures .1) in
-    let z = c .before .before .before .before .before .before .before .before .before .before .before .before .before .before .before .before .before .before .before .before .before .before .before .before .before .before .before .before .before .before .pre .collectable .sizes in
-    sym (length-take-le _ _ (omega (arith, b .ordered, b .few-own, b .few-global, b .few-shared, z .own-size, z .global-size, z .shared-size, z .kinds-size)))
-
-put-collected-requires : tie.Need-put-collected-requires
-put-collected-requires c κs =
-    let r = c .before .before .before .before .before .before .before .before .before .before .before .before .before .before .before .before .before .before .before .before .before .before .before .before .before .before .before .before .before .before .before .before .pre in
-    (r .collectable .prototype-good .line-length, (r .states, (r .all-ready, (cut-small _ _ _ (r .collectable .settled) _ _ _ _ _ (c .before .before .before .before .before .before .before .before .before .before .before .before .before .before .before .before .before .before .before .collect .ensures .1) _ _ (r .collectable .shared-known .counted) (c .before .before .before .before .before .before .before .before .before .before .before .before .before .before .before .before .before .before .before .collect .ensures .0), cut-room _ _ _ (r .collectable .settled) _ _ _ _ _ (c .before .before .before .before .before .before .before .before .before .before .before .before .before .before .before .before .before .before .before .collect .ensures .1) _ _ (r .collectable .shared-known .counted) (c .before .before .before .before .before .before .before .before .before .before .before .before .before .before .before .before .before .before .before .collect .ensures .0) _ _ (r .room)))))
+put-tables-requires : tie.Need-put-tables-requires
+put-tables-requires c κs =
+    let h = c .before .before .before .before .before .before .before .before .before .before .before .before .before .before .before .before .before .before .before .before .before .before .before .before .before .before .before .before .before .before .before .before .before .before .pre in
+    let a = c .before .before .before .before .before .before .before .before .before .before .before .before .before .before .before .before .before .before .before .before .before .before .before .before .before .before .before .before .before .before .before .before .before .before .args in
+    let p = c .before .before .before .before .before .before .before .before .before .before .before .before .before .before .before .before .before .before .before .before .before .before .before .declare-prototype .ensures in
+    let s = started (h .member) (h .holds) _ _ _ (p .1 .0) (a .global .now) (p .0) in
+    let d = collected (h .member) (h .holds) _ _ _ _ _ _ _ _ _ _ s (c .before .before .before .before .before .before .before .before .before .before .before .before .before .before .declare-body .ensures) in
+    tabled (h .member) (h .holds) d (a .body .now) refl _ (p .1 .0)
+    (sizes-as (a .own .now) (a .global .now) (a .shared .now) (a .kinds .now) _ _ _ _ (h .lent .sizes) (search needs) (search needs) (search needs) (search needs))
+    (a .code .now) (a .out .now) (a .at) (h .lent .codes) (h .room)
 
 same-length : tie.Need-same-length
 same-length c = search needs
@@ -101,27 +57,20 @@ same-length-6 c = search needs
 
 returns : tie.Need-returns
 returns c =
-    let r = c .before .before .before .before .before .before .before .before .before .before .before .before .before .before .before .before .before .before .before .before .before .before .before .before .before .before .before .before .before .before .before .before .before .before .before .before .before .pre in
-    (macro-written _ _ _ (r .collectable .settled) _ _ _ _ _ (c .before .before .before .before .before .before .before .before .before .before .before .before .before .before .before .before .before .before .before .before .before .before .before .before .collect .ensures .1) _ _ (r .collectable .shared-known .counted) (c .before .before .before .before .before .before .before .before .before .before .before .before .before .before .before .before .before .before .before .before .before .before .before .before .collect .ensures .0) _ _ _ _ (c .before .before .before .before .put-collected .ensures), still-shared _ _ _ (r .collectable .settled) _ _ _ _ _ (c .before .before .before .before .before .before .before .before .before .before .before .before .before .before .before .before .before .before .before .before .before .before .before .before .collect .ensures .1) _ _ (r .collectable .shared-known .counted) (c .before .before .before .before .before .before .before .before .before .before .before .before .before .before .before .before .before .before .before .before .before .before .before .before .collect .ensures .0))
+    let h = c .before .before .before .before .before .before .before .before .before .before .before .before .before .before .before .before .before .before .before .before .before .before .before .before .before .before .before .before .before .before .before .before .before .before .before .before .before .before .before .pre in
+    let a = c .before .before .before .before .before .before .before .before .before .before .before .before .before .before .before .before .before .before .before .before .before .before .before .before .before .before .before .before .before .before .before .before .before .before .before .before .before .before .before .args in
+    let p = c .before .before .before .before .before .before .before .before .before .before .before .before .before .before .before .before .before .before .before .before .before .before .before .before .before .before .before .before .declare-prototype .ensures in
+    let s = started (h .member) (h .holds) _ _ _ (p .1 .0) (a .global .now) (p .0) in
+    let d = collected (h .member) (h .holds) _ _ _ _ _ _ _ _ _ _ s (c .before .before .before .before .before .before .before .before .before .before .before .before .before .before .before .before .before .before .before .declare-body .ensures) in
+    macro-done (h .member) (h .holds) d (a .body .now) refl _ (p .1 .0) (a .out .now) _ (a .at) _ (c .before .before .before .before .put-tables .ensures)
 
 pub put-macro-spec : {M : Type 1} → statement M
 put-macro-spec =
     tie.close
     (tie.spec
-    collect-requires
-    mul-mine
-    mul-theirs
-    mul-ours
-    sub-put-collected
-    part-put-collected-start
-    part-put-collected-end
-    slice-reshare-prefix-put-collected
-    slice-aggregate-put-collected
-    slice-reshare-prefix-put-collected-2
-    slice-aggregate-put-collected-2
-    slice-reshare-prefix-put-collected-3
-    slice-aggregate-put-collected-3
-    put-collected-requires
+    declare-prototype-requires
+    declare-body-requires
+    put-tables-requires
     same-length
     same-length-2
     same-length-3
