@@ -1,4 +1,4 @@
 pub mod Numbers
-pub mod Globals
 pub mod Only
 pub mod Outcomes
+pub mod Checked

@@ -6,3 +6,4 @@ pub enum Translated {
     Deck { length: usize },
     Refused { fault: refusals::Fault, line: usize },
 }
+
