@@ -3,3 +3,4 @@ pub mod Members
 pub mod Tables
 pub mod Parts
 pub mod Loop
+pub mod Whole

@@ -5,8 +5,6 @@ use mathlib.Core.Path.{_≡_, refl, ap, sym, _∙_, subst}
 use mathlib.Core.List.{List, [], _∷_, _++_, map, append-assoc}
 use lib.ListN.{length, take, drop}
 use Rattle.text.specs.Bytes.{Bytes}
-use Rattle.rules.specs.Fields.{linesOf}
-use Rattle.rules.specs.Statement.{Set}
 use Rattle.rules.specs.Library.{Macro, outer, macrosFrom}
 use Rattle.rules.specs.ByLines.{reading}
 use Rattle.rules.specs.Faults.{accepted, verdict}

@@ -1,32 +1,31 @@
 -- What acceptance says of a macro of a library: its symbols fit into tables behind all globals of the library, agree with them and bring none. Assumes nothing.
 use Prim.Native.Nat.{ℕ, suc, _+_, _≤_, _<_}
 use native.Mathlib.Omega.{arith}
-use mathlib.Core.Path.{_≡_, refl, ap, sym, _∙_, subst}
-use mathlib.Core.Bool.{Bool, true, false, _||_}
+use mathlib.Core.Path.{_≡_, refl, ap, sym, subst}
+use mathlib.Core.Bool.{false}
 use mathlib.Core.List.{List, [], _∷_, _++_, map}
 use lib.ListN.{length, length-append}
 use Rattle.text.specs.Bytes.{Bytes}
 use Rattle.rules.specs.Choice.{any}
-use Rattle.rules.specs.Limits.{libraryLimit, parameterLimit, localLimit, globalLimit}
+use Rattle.rules.specs.Limits.{parameterLimit, localLimit, globalLimit}
 use Rattle.rules.specs.Fields.{Fields, linesOf, isIllWritten, isRemark, noFields, fieldsOf, statementFields, isEmpty}
-use Rattle.rules.specs.Statement.{Set}
-use Rattle.rules.specs.Library.{Macro, outer, atPrototype, macrosFrom, operationOf, localsOn, globalsOn, declaredIn, Names, namesIn, firsts, parameterNames, withGlobals, globalsOf}
+use Rattle.rules.specs.Library.{Macro, outer, macrosFrom, operationOf, localsOn, globalsOn, declaredIn, Names, namesIn, firsts, parameterNames, withGlobals, globalsOf}
 use Rattle.rules.specs.ByLines.{ownNames, Reading, reading}
-use Rattle.rules.specs.Faults.{isOutOfPlace, accepted, verdict}
+use Rattle.rules.specs.Faults.{isOutOfPlace}
 use Rattle.rules.proofs.Choices.{by, chosen}
 use Rattle.rules.proofs.Logic.{clash, All}
-use Rattle.rules.proofs.OneKind.{Globals, globalsIn, few-globals}
+use Rattle.rules.proofs.OneKind.{Globals, few-globals}
 use Rattle.rules.proofs.ReadLines.{written-in}
-use Rattle.rules.proofs.Accepted.{Faultless, around, Known, readings}
-use Rattle.rules.proofs.Walked.{Lines, end, next, Found, none, other, found, all-found, Proper, body-of}
+use Rattle.rules.proofs.Accepted.{Known}
+use Rattle.rules.proofs.Walked.{Found, none, other, found, all-found, Proper, body-of}
 use Rattle.rules.proofs.Within.{few-locals}
-use Rattle.rules.proofs.Taken.{Taken, all-taken, own-parameters, is-known}
+use Rattle.rules.proofs.Taken.{Taken, all-taken, own-parameters}
 use Rattle.collecting.specs.declared.Rows.{Rows as Counts}
 use Rattle.collecting.specs.Collected.{Prototype}
 use Rattle.collecting.specs.Bodies.{Fits, Agrees}
 use Rattle.collecting.proofs.Accepted.{lines-short, lines-agree, few-globals as few-own-globals, prototype-known}
 use Rattle.bodies.proofs.Coded.{body-well-written}
-use Rattle.macros.specs.Macros.{globalsOfLibrary, Member}
+use Rattle.macros.specs.Macros.{Member}
 use Rattle.macros.proofs.Settled.{Settled, all-front, lines-settled, settled-then, adds-nothing, lines-agree as agree-with-all, then-longer}
 
 -- ---- each macro, with the globals before it and those of the whole library

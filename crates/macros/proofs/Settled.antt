@@ -1,8 +1,8 @@
 -- A global that is there with one kind: it stays so where others are added, and to declare it again adds nothing. Assumes nothing.
-use Prim.Native.Nat.{ℕ, _+_, _≤_}
+use Prim.Native.Nat.{_+_, _≤_}
 use native.Mathlib.Omega.{arith}
 use mathlib.Core.Path.{_≡_, refl, ap, sym, _∙_, subst}
-use mathlib.Core.Bool.{Bool, true, false, _&&_, _||_, not, and-false}
+use mathlib.Core.Bool.{true, false, _&&_, _||_, not, and-false}
 use mathlib.Core.List.{List, [], _∷_, _++_}
 use lib.ListN.{length, length-append}
 use borrow.Author.Tests.{eq-eqb}
@@ -69,8 +69,8 @@ has-more : (gs : Globals) (g : Bytes × Set) (k : Set) (n : Bytes) → isAmong (
 has-more gs g k n e h = record {
   among = among-front gs (g ∷ []) n (h .among);
   one-kind = other-more k gs g n (h .one-kind) (by (same (g .0) n)
-    (λ t. clash (subst (λ (m : Bytes). isAmong m gs ≡ true) (sym (same-is (g .0) n t)) (h .among)) e)
-    (λ t. ap (_&& not (sameSet (g .1) k)) t));
+      (λ t. clash (subst (λ (m : Bytes). isAmong m gs ≡ true) (sym (same-is (g .0) n t)) (h .among)) e)
+      (λ t. ap (_&& not (sameSet (g .1) k)) t));
 }
 
 pub has-with : (gs new : Globals) (k : Set) (n : Bytes) → Has gs k n → Has (withGlobals gs new) k n

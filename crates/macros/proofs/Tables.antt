@@ -3,39 +3,35 @@ use Prim.Native.Nat.{ℕ, _+_, _*_, _-_, _≤_, _<_}
 use native.Mathlib.Nat.{not-suc-le-zero}
 use native.Mathlib.Omega.{arith}
 use mathlib.Core.Path.{_≡_, refl, ap, sym, _∙_, subst}
-use mathlib.Core.Bool.{Bool, true, false}
-use mathlib.Core.List.{List, [], _∷_, _++_, map, map-append}
+use mathlib.Core.Bool.{false}
+use mathlib.Core.List.{List, [], _++_, map, map-append}
 use lib.ListN.{length, take, drop, length-append, length-map, length-take}
 use lib.Seq.{take-add, drop-at, length-take-le}
 use Rattle.text.specs.Bytes.{Bytes}
 use Rattle.rules.specs.Choice.{any}
 use Rattle.rules.specs.Fields.{linesOf, isIllWritten}
 use Rattle.rules.specs.Statement.{Set}
-use Rattle.rules.specs.Grammar.{Kind, parameter, symbol}
-use Rattle.rules.specs.Library.{Macro, globalsOn, declaredIn, Names, namesIn as namesOf, firsts, seconds, parameterNames, withGlobals}
+use Rattle.rules.specs.Grammar.{parameter, symbol}
+use Rattle.rules.specs.Library.{Macro, declaredIn, Names, namesIn as namesOf, firsts, seconds, parameterNames}
 use Rattle.rules.specs.ByLines.{ownNames, ownKinds, noReading, reading}
 use Rattle.rules.proofs.OneKind.{Globals}
 use Rattle.rules.proofs.Symbols.{length-firsts}
 use Rattle.deck.proofs.Lists.{map-map}
 use Rattle.deck.specs.Coding.{listOf}
-use Rattle.deck.specs.Coders.{kind, line}
-use Rattle.deck.specs.Slots.{resolvedLine}
+use Rattle.deck.specs.Coders.{kind}
 use Rattle.lent.specs.Splice.{splice}
 use Rattle.names.specs.Names.{rowsBy, namesIn}
 use Rattle.grammar.specs.Kinds.{numberOf}
 use Rattle.symbols.specs.Held.{Held}
-use Rattle.declaring.specs.Declared.{globalsIn}
 use Rattle.declaring.proofs.Holding.{globals-held}
 use Rattle.collecting.specs.declared.Rows.{Rows as Counts}
 use Rattle.collecting.specs.Collected.{Sizes, Declared, Starts}
 use Rattle.collecting.specs.Bodies.{RoomFor, DeclaresBehind}
 use Rattle.headers.specs.Headers.{headerOf}
 use Rattle.headers.proofs.Headers.{macro-parts}
-use Rattle.bodies.specs.Lines.{bodyIn}
-use Rattle.bodies.specs.Room.{AllReady}
 use Rattle.bodies.proofs.Coded.{body-in, body-good}
 use Rattle.decks.specs.Decks.{macroPut}
-use Rattle.macros.specs.Macros.{Member, Holds, globalsAt, Lent, partsPut, Parts, tablesPut, Tabled}
+use Rattle.macros.specs.Macros.{Member, Holds, globalsAt, partsPut, tablesPut, Tabled}
 use Rattle.macros.proofs.Members.{few-all, few-parameters, body-fits, few-declared, body-agrees, brings-none, prototype-short, no-remark, body-written, few-lines, known}
 
 -- tables that hold globals tell which
@@ -134,8 +130,8 @@ module _ {gs : Globals} {m : Macro} (h : Member gs m) {rows : ℕ} {shared kinds
             length-map (parameterNames names) (λ (p : Bytes). parameter),
           ) in
           let whole : take (a + b) kinds₁ ≡ ps ++ ks =
-              ap (λ (k : ℕ). take k kinds₁) (sym q ∙ sym (d .own))
-              ∙ (d .held .my-kinds ∙ map-append numberOf (map (λ (p : Bytes). parameter) (parameterNames names)) (map symbol (seconds (names .locals)))) in
+          ap (λ (k : ℕ). take k kinds₁) (sym q ∙ sym (d .own))
+          ∙ (d .held .my-kinds ∙ map-append numberOf (map (λ (p : Bytes). parameter) (parameterNames names)) (map symbol (seconds (names .locals)))) in
           let within : a ≤ length kinds₁ = omega (arith, l, ap length whole, length-take (a + b) kinds₁, length-append ps ks) in
           sym (drop-at (take a kinds₁) (take b (drop a kinds₁)) a (length-take-le a kinds₁ within))
           ∙ (ap (drop a) (sym (take-add a b kinds₁) ∙ whole) ∙ (drop-at ps ks a l ∙ map-map symbol numberOf (λ k. refl) (seconds (names .locals))))

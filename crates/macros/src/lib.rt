@@ -1,16 +1,15 @@
 // Macros in a deck: one macro's bytes, those of all macros of a library, and the whole deck.
 ghost use mathlib.Core.Path.{_≡_};
 ghost use mathlib.Core.List.{List, map};
-ghost use Prim.Native.Nat.{_+_, _-_, _≤_};
+ghost use Prim.Native.Nat.{_+_, _-_, _≤_, _<_};
 ghost use lib.ListN.{length, take, drop};
-ghost use Rattle.rules.specs.Fields.{linesOf};
 ghost use Rattle.rules.specs.Statement.{Set};
 ghost use Rattle.rules.specs.Grammar.{symbol};
 ghost use Rattle.rules.specs.Faults.{accepted, verdict};
 ghost use Rattle.grammar.specs.Kinds.{numberOf};
 ghost use Rattle.deck.specs.Translation.{deckOf};
 ghost use Rattle.lent.specs.Splice.{splice};
-ghost use Rattle.decks.specs.Decks.{macroPut, macrosPut};
+ghost use Rattle.decks.specs.Decks.{macroPut, macrosPut, frontOf};
 ghost use Rattle.macros.specs.Macros.{globalsOfLibrary, macroOf, Holds, globalsAt, Lent, partsPut, Parts, tablesPut, Tabled, Writable};
 
 // A macro's bytes by its prototype, the kinds of its locals and the tables of its names, from `at` on; answers where they end.
@@ -148,4 +147,50 @@ pub fn put_macros(
         );
     }
     to
+}
+
+// What stands between a deck's count of bytes and its macros: the version, the globals' kinds, the number of macros; answers where it ends.
+fn put_front(kinds: &[u8], count: usize, out: &mut [u8]) -> usize
+    requires { ⌜ (length (now kinds) ≤ 64) × ((count < 65536) × (65536 ≤ length (now out))) ⌝ }
+    ensures { λ r. ⌜ ((ks : List Set) → now (kinds .entry) ≡ map (λ k. numberOf (symbol k)) ks → (r ≡ 4 + length (frontOf ks count)) × (now (out .exit) ≡ splice (now (out .entry)) 4 (frontOf ks count))) ⌝ }
+{
+    out[4] = 1;
+    writing::put_kinds(out, 5, kinds);
+    let end = kinds.len() + 7;
+    lent::put_two(out, end, count);
+    end + 2
+}
+
+// The deck of an accepted library, from the buffer's start on; answers how many bytes it has. The tables hold the library's `globals` globals.
+pub fn put_deck(
+    library: &[u8],
+    globals: usize,
+    own: &mut [u8],
+    global: &mut [u8],
+    shared: &mut [u8],
+    kinds: &mut [u8],
+    code: &mut [u8],
+    out: &mut [u8],
+) -> usize
+    requires { ⌜ (verdict (now library) ≡ accepted) × (Lent (now own) (now global) (now shared) (now kinds) (now code) × Holds (globalsOfLibrary (now library)) globals (now shared) (now kinds)) ⌝ }
+    requires { ⌜ 65536 ≤ length (now out) ⌝ }
+    ensures { λ r. ⌜ r ≡ length (deckOf (now (library .entry))) ⌝ }
+    ensures { λ _. ⌜ now (out .exit) ≡ splice (now (out .entry)) 0 (deckOf (now (library .entry))) ⌝ }
+{
+    let count = decks::macro_count(library);
+    let past = 64 + globals;
+    let start = put_front(&kinds[64..past], count, out);
+    let end = put_macros(
+        library,
+        globals,
+        own,
+        global,
+        shared,
+        kinds,
+        code,
+        out,
+        start,
+    );
+    lent::put_four(out, 0, end - 4);
+    end
 }

@@ -6,11 +6,6 @@ use Rattle.macros.proofs.Tables.{started, body-room, collected, tabled,
 use borrow.Author.Needs.{needs}
 use Rattle.macros.proofs.put_macro.Statement.{statement}
 use Rattle.macros.proofs.put_macro.Tie as tie
-use Rattle.macros.proofs.put_macro.Reads as reads
-use Rattle.macros.proofs.put_macro.Lts as lts
-use Rattle.collecting.proofs.declare_body.Reads as declare-body-reads
-use Rattle.collecting.proofs.declare_prototype.Reads as declare-prototype-reads
-use Rattle.macros.proofs.put_tables.Reads as put-tables-reads
 
 declare-prototype-requires : tie.Need-declare-prototype-requires
 declare-prototype-requires c κs =

@@ -8,13 +8,6 @@ use Rattle.macros.proofs.Loop.{Going, going-start, ends, none-found, wr
 use borrow.Author.Needs.{needs}
 use Rattle.macros.proofs.put_macros.Statement.{statement}
 use Rattle.macros.proofs.put_macros.Tie as tie
-use Rattle.macros.proofs.put_macros.Reads as reads
-use Rattle.macros.proofs.put_macros.Lts as lts
-use Rattle.labels.proofs.body_end.Reads as body-end-reads
-use Rattle.labels.proofs.past_newline.Reads as past-newline-reads
-use Rattle.labels.proofs.prototype_start.Reads as prototype-start-reads
-use Rattle.lines.proofs.line_end.Reads as line-end-reads
-use Rattle.macros.proofs.put_macro.Reads as put-macro-reads
 
 abbrev Inv-loop : tie.InvT-loop
 Inv-loop library globals own₀ global₀ shared₀ kinds₀ code₀ out₀ at next₀ to₀ own global shared kinds code out next to =

@@ -5,11 +5,6 @@ use Rattle.macros.proofs.Parts.{parts-length, kinds-length, parts-done}
 use borrow.Author.Needs.{needs}
 use Rattle.macros.proofs.put_parts.Statement.{statement}
 use Rattle.macros.proofs.put_parts.Tie as tie
-use Rattle.macros.proofs.put_parts.Reads as reads
-use Rattle.macros.proofs.put_parts.Lts as lts
-use Rattle.bodies.proofs.put_body.Reads as put-body-reads
-use Rattle.headers.proofs.put_header.Reads as put-header-reads
-use Rattle.writing.proofs.put_kinds.Reads as put-kinds-reads
 
 put-header-requires : tie.Need-put-header-requires
 put-header-requires c κs =

@@ -6,9 +6,6 @@ use lib.Seq.{length-take-le}
 use borrow.Author.Needs.{needs}
 use Rattle.macros.proofs.put_tables.Statement.{statement}
 use Rattle.macros.proofs.put_tables.Tie as tie
-use Rattle.macros.proofs.put_tables.Reads as reads
-use Rattle.macros.proofs.put_tables.Lts as lts
-use Rattle.macros.proofs.put_parts.Reads as put-parts-reads
 
 mul-mine : tie.Need-mul-mine
 mul-mine c = search needs
