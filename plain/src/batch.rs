@@ -85,3 +85,46 @@ pub fn run(input: &mut impl BufRead, to: &mut impl Write) -> io::Result<()> {
     }
     to.flush()
 }
+
+/// On how many cases two translations agree: those that both refuse alike, and those that both accept.
+#[derive(Clone, Copy, Debug, Default, PartialEq, Eq)]
+pub struct Agreement {
+    pub refused: usize,
+    pub decks: usize,
+}
+
+/// Holds the answers of `translate_batch` to the translation here: the same refusals with the same lines, and wherever the
+/// library is accepted a deck of the length that its first bytes tell. The first case on which they differ is an error.
+pub fn compare(cases: &mut impl BufRead, answers: &mut impl BufRead) -> io::Result<Agreement> {
+    let mut agreement = Agreement::default();
+    while let Some(case) = read_case(cases)? {
+        let mut head = Vec::new();
+        answers.read_until(b'\n', &mut head)?;
+        let head = String::from_utf8_lossy(&head).into_owned();
+        let differs = |said: &str| Err(io::Error::other(format!("case {}: {said}, but the answer is: {}", case.id, head.trim_end())));
+        match translate(&case.library) {
+            Err(fault) => {
+                let said = format!("ANSWER {} LIBRARY {} {}", case.id, fault.number, fault.line);
+                if head != format!("{said}\n") {
+                    return differs(&said);
+                }
+                agreement.refused += 1;
+            }
+            Ok(_) => {
+                let words: Vec<&str> = head.split_whitespace().collect();
+                let ["ANSWER", id, "DECK", count] = words[..] else { return differs("accepted") };
+                let Ok(count) = count.parse::<usize>() else { return differs("accepted") };
+                let deck = read_bytes(answers, count + 1)?;
+                let told = deck.first_chunk::<4>().map(|b| u32::from_be_bytes(*b) as usize + 4);
+                if id != case.id || told != Some(count) || deck.last() != Some(&b'\n') {
+                    return differs("accepted, with a whole deck");
+                }
+                agreement.decks += 1;
+            }
+        }
+    }
+    if !answers.fill_buf()?.is_empty() {
+        return Err(io::Error::other("there are more answers than cases"));
+    }
+    Ok(agreement)
+}

@@ -1,4 +1,4 @@
-//! `plain expand DIR`, `plain batch`, `plain states EVERY`, `plain gen SEED COUNT PROFILE`, `plain stats SEED COUNT [PROFILE]`:
+//! `plain expand DIR`, `plain batch`, `plain compare CASES`, `plain states EVERY`, `plain gen SEED COUNT PROFILE`, `plain stats SEED COUNT [PROFILE]`:
 //! see README.md.
 
 use plain::{batch, gen, printed, states};
@@ -12,6 +12,7 @@ fn main() -> ExitCode {
     let answer = match words.as_slice() {
         ["expand", folder] => expand_folder(Path::new(folder)),
         ["batch"] => batch::run(&mut BufReader::new(io::stdin().lock()), &mut BufWriter::new(io::stdout().lock())),
+        ["compare", cases] => compare(Path::new(cases)),
         ["states", every] => every_state(every),
         ["gen", seed, count, profile] => generate(seed, count, profile),
         ["stats", seed, count] => stats(seed, count, &gen::PROFILES),
@@ -30,8 +31,16 @@ fn main() -> ExitCode {
 fn usage() -> io::Error {
     let profiles = gen::PROFILES.join(" ");
     io::Error::other(format!(
-        "usage: plain expand DIR | plain batch | plain states EVERY | plain gen SEED COUNT PROFILE | plain stats SEED COUNT [PROFILE]\nprofiles: {profiles}"
+        "usage: plain expand DIR | plain batch | plain compare CASES | plain states EVERY | plain gen SEED COUNT PROFILE | plain stats SEED COUNT [PROFILE]\nprofiles: {profiles}"
     ))
+}
+
+/// Holds the answers of `translate_batch` on standard input to the cases of a file.
+fn compare(cases: &Path) -> io::Result<()> {
+    let mut cases = BufReader::new(std::fs::File::open(cases)?);
+    let batch::Agreement { refused, decks } = batch::compare(&mut cases, &mut BufReader::new(io::stdin().lock()))?;
+    println!("{} cases agree: {refused} refused, {decks} decks", refused + decks);
+    Ok(())
 }
 
 /// The states of the cases on standard input, after every so many lines.
