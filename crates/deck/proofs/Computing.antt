@@ -1,7 +1,7 @@
 -- The definitions, opened for computing: the deck of a library, which slices are in good form, and what expanding through a deck answers.
 use Prim.Native.Nat.{ℕ}
 use mathlib.Core.Bool.{Bool, true, false}
-use mathlib.Core.Option.{Option, none, some}
+use mathlib.Core.Option.{none, some}
 use Rattle.text.specs.Bytes.{Bytes}
 use Rattle.text.specs.Characters as text-Characters
 use Rattle.text.specs.Words as text-Words

@@ -1,12 +1,12 @@
 -- A small deck, byte by byte (docs/DECK.md), and what becomes of it when it is damaged, computed.
-use Prim.Native.Nat.{ℕ, zero, suc, ◌+◌}
+use Prim.Native.Nat.{ℕ, zero, suc}
 use mathlib.Core.Path.{◌≡◌, refl}
-use mathlib.Core.Bool.{Bool, true, false}
+use mathlib.Core.Bool.{true, false}
 use mathlib.Core.List.{List, [], ◌∷◌, ◌++◌, map}
-use lib.ListN.{length, take, drop, set}
+use lib.ListN.{take, set}
 use Rattle.text.specs.Bytes.{Bytes, bytes}
 use Rattle.rules.specs.Choice.{choose}
-use Rattle.rules.specs.Machine.{done, refused}
+use Rattle.rules.specs.Machine.{done}
 use Rattle.deck.proofs.Computing.{deck_bytes, is_in_good_form, through_deck}
 
 abbrev library : Bytes

@@ -31,7 +31,7 @@ use Rattle.rules.proofs.OneKind.{globals_in, global-in-range, few-globals}
 use Rattle.rules.proofs.Within.{few-macros}
 use Rattle.rules.proofs.Keywords.{keyword_bytes, GoodKeyword}
 use Rattle.rules.proofs.Taken.{Taken, taken_at, is_known, title-written, own-names, own-locals, positionals-and-keywords, own-keywords}
-use Rattle.deck.specs.Slots.{Slot, own, list, index, section, nowhere, system_slot, resolved, resolved_line, deck_macro, deck_in, resolved_library}
+use Rattle.deck.specs.Slots.{Slot, list, index, section, nowhere, system_slot, resolved, resolved_line, deck_macro, deck_in, resolved_library}
 use Rattle.deck.proofs.Lists.{all-mapped}
 use Rattle.deck.proofs.Coding.{IsByte, IsCount, FitsSlot, FitsLex, FitsField, FitsString, FitsDoing, FitsLine, FitsMacro, FitsDeck}
 

@@ -1,26 +1,24 @@
 -- Every deck in good form, whether a translation made it or not, has runs that end, and gives only 01's refusals.
-use Prim.Native.Nat.{ℕ, zero, suc, ◌+◌, ◌≤◌, ◌<◌}
+use Prim.Native.Nat.{ℕ, zero, suc, ◌≤◌, ◌<◌}
 use native.Mathlib.Nat.{le_of_suc-le-suc, not-suc-le-zero}
 use native.Mathlib.Omega.{arith}
 use mathlib.Core.Path.{◌≡◌, refl, ap, sym, ◌∙◌, subst}
 use mathlib.Core.Logic.{◌⊎◌, inl, inr, ⊎_elim}
 use mathlib.Core.Bool.{Bool, true, false, true≢false, false≢true, ◌&&◌, ◌||◌, not}
-use mathlib.Core.List.{List, [], ◌∷◌, ◌++◌, map}
+use mathlib.Core.List.{List, [], ◌∷◌, map}
 use mathlib.Core.Option.{Option, none, some}
 use lib.Dec.{eqb, leb, ltb}
 use lib.ListN.{length, get_or, length-map}
 use borrow.Author.Tests.{leb-true, ne_eqb}
 use Rattle.text.specs.Bytes.{Bytes, bytes}
 use Rattle.rules.specs.Choice.{choose, every, any}
-use Rattle.text.specs.Words.{words, place_among}
+use Rattle.text.specs.Words.{words}
 use Rattle.rules.specs.Limits.{bad_deck, short_workspace, parameter_limit, local_limit, global_limit, macro_limit, library_limit, nest_limit, workspace_size}
-use Rattle.rules.specs.Lexemes.{Lex, byte, mark, ref, lone}
 use Rattle.rules.specs.Fields.{is_ill_written, is_remark, is_copied_remark, is_dropped_remark, Fields, no_fields, statement_fields, fields_of, starts_with, is_empty}
-use Rattle.rules.specs.Statement.{Set, Line, Does, passes, ends, exits, text, models, sets, branches_if, branches, counts, map_lex, map_does, map_line, is_copied}
-use Rattle.rules.specs.Grammar.{Kind}
+use Rattle.rules.specs.Statement.{Set, Line, Does, passes, ends, exits, text, models, sets, branches_if, branches, counts, map_does, map_line, is_copied}
 use Rattle.rules.specs.Form.{is_formed}
-use Rattle.rules.specs.Evaluate.{Value, Cell, own_cell, shared_cell, system_cell}
-use Rattle.rules.specs.Machine.{Level, Machine, Header, is_language_word, Answer, expansion, at_once, output_after, workspace_after, begun, enough}
+use Rattle.rules.specs.Evaluate.{Value, own_cell, shared_cell, system_cell}
+use Rattle.rules.specs.Machine.{Level, is_language_word, Answer, at_once, begun, enough}
 use Rattle.rules.specs.Places.{numbers_at, is_of01}
 use Rattle.rules.proofs.Choices.{by, chosen, passed_over, and_left, and_right, either}
 use Rattle.rules.proofs.Logic.{or_left, else-so, none-at}

@@ -103,7 +103,7 @@ module _ {p : Bytes} {n m : ℕ} {ts : List Bytes} {gs : List (Bytes × Set)} {b
       let q = or_right (not (is_formed nest_limit (kinds_of (names_in p before) l))) _ (or_right (leb library_limit n) _ h.within) in
       subst (λ k. k ≤ local_limit) (sym (declared-last locals_on before l)) (within-some (locals_on l) _ local_limit few (or_left _ _ q))
 
-lines-locals : {p : Bytes} {n m : ℕ} {ts : List Bytes} {gs : List (Bytes × Set)} {before rest : List Bytes} → Lines p m ts n gs before rest
+lines-locals : {p : Bytes} {m : ℕ} {ts : List Bytes} {n : ℕ} {gs : List (Bytes × Set)} {before rest : List Bytes} → Lines p m ts n gs before rest
     → length (declared_in locals_on before) ≤ local_limit → length (declared_in locals_on (before ++ rest)) ≤ local_limit
 lines-locals (end more e f) h = locals-within f h
 lines-locals (next {before = before} {l = l} {ls = ls} more e f b) h =

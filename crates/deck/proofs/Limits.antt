@@ -30,7 +30,7 @@ line-counted : {a : Around} {l : Bytes} {more : List Bytes} → Faultless a l mo
 unfolding is_over_limit
 line-counted {a} h = leb-false library_limit a.lines (or_left _ _ h.within)
 
-lines-counted : {p : Bytes} {n m : ℕ} {ts : List Bytes} {gs : List (Bytes × Set)} {before rest : List Bytes} → Lines p m ts n gs before rest → n + length rest ≤ library_limit
+lines-counted : {p : Bytes} {m : ℕ} {ts : List Bytes} {n : ℕ} {gs : List (Bytes × Set)} {before rest : List Bytes} → Lines p m ts n gs before rest → n + length rest ≤ library_limit
 lines-counted (end more e f) = omega (arith, line-counted f)
 lines-counted (next more e f b) = omega (arith, lines-counted b)
 
@@ -89,7 +89,7 @@ globals-within {p = p} {n = n} {gs = gs} {before = before} {l = l} h few =
     (or_right (not (is_empty (locals_on l)) && ltb local_limit (length (names_in p before).locals + length (locals_on l))) _
     (or_right (not (is_formed nest_limit (kinds_of (names_in p before) l))) _ (or_right (leb library_limit n) _ h.within)))
 
-lines-globals : {p : Bytes} {n m : ℕ} {ts : List Bytes} {gs : List (Bytes × Set)} {before rest : List Bytes} → Lines p m ts n gs before rest
+lines-globals : {p : Bytes} {m : ℕ} {ts : List Bytes} {n : ℕ} {gs : List (Bytes × Set)} {before rest : List Bytes} → Lines p m ts n gs before rest
     → length gs ≤ global_limit → length (with_globals gs (declared_in globals_on rest)) ≤ global_limit
 unfolding declared_in
 lines-globals (end {gs = gs} {l = l} more e f) h =

@@ -15,7 +15,7 @@ use Rattle.rules.specs.Choice.{choose, passed, run, every, on_first}
 use Rattle.rules.specs.Limits.{name_limit, macro_name_limit}
 use Rattle.rules.specs.Lexemes.{space, ampersand, apostrophe, opening, closing, comma, period, equals, Lex, byte, mark, ref, lone, byte_of, is_plain, Before, field_start, follows, is_mark, after, marked, Mode, in_text, after_ampersand, in_symbol, symbols, lexed, unlexed, is_name, is_sequence, Inside, outside, enters, is_bare}
 use Rattle.rules.specs.Fields.{is_remark, is_copied_remark, starts_with, is_space, is_no_space, Fields, fields_of, ends_operand, operand_end, holds_spaces, is_empty}
-use Rattle.rules.specs.Statement.{Set, set_a, set_b, set_c, Statement, macro, mend, mexit, local, global, set, aif, ago, anop, actr, model, statements, statement_of, passes, text, Line, map_lex, map_does, map_line, pairs_first, starts_open, condition_end, is_copied, doing, model_of, says, read}
+use Rattle.rules.specs.Statement.{Set, set_a, set_b, set_c, Statement, macro, mend, mexit, local, global, set, aif, ago, anop, actr, model, statements, statement_of, text, Line, map_lex, map_does, map_line, pairs_first, starts_open, condition_end, is_copied, doing, model_of, says, read}
 use Rattle.rules.specs.Machine.{is_language_word}
 use Rattle.rules.specs.Calls.{parts, divided, has_equals}
 use Rattle.rules.specs.Library.{Macro, line_named, keyword_names, operand_parts, names_in, operation_of}

@@ -1,5 +1,5 @@
 -- A slot of an accepted library's deck has the kind of the name that it was, so its lines are well formed as the library's are.
-use Prim.Native.Nat.{ℕ, ◌+◌, ◌≤◌, ◌<◌}
+use Prim.Native.Nat.{ℕ, ◌≤◌, ◌<◌}
 use native.Mathlib.Omega.{arith}
 use mathlib.Core.Path.{◌≡◌, refl, ap, sym, ◌∙◌, subst}
 use mathlib.Core.Bool.{Bool, true, false, not}
@@ -27,7 +27,7 @@ use Rattle.rules.proofs.Symbols.{length-firsts, get_d-mapped, system-kind, cell-
 use Rattle.rules.proofs.Accepted.{formed-in-limits, Known, line-stands, readings}
 use Rattle.rules.proofs.FormedLines.{form-alike, same-form}
 use Rattle.rules.proofs.Walked.{Proper, each-proper, all_found}
-use Rattle.deck.specs.Slots.{Slot, own, shared, list, index, section, nowhere, DeckMacro, system_slot, resolved, resolved_line, deck_macro, deck_in, resolved_library, parameters, own_kinds_of, slot_kind, no_macro, no_line}
+use Rattle.deck.specs.Slots.{Slot, list, index, section, nowhere, DeckMacro, system_slot, resolved, resolved_line, deck_macro, deck_in, resolved_library, parameters, own_kinds_of, slot_kind, no_macro, no_line}
 use Rattle.deck.proofs.Lists.{map-constant}
 use Rattle.deck.proofs.Tests.{every-each}
 use Rattle.deck.proofs.Macros.{globals_in, Each}

@@ -1,11 +1,11 @@
 -- Which fields, lines and defaults 01's reader can give: the lexical half of good form.
-use Rattle.std.specs.Prelude.{ℕ, zero, suc, Bool, true, false, ◌&&◌, ◌||◌, not, List, [], ◌∷◌, map, eqb, leb, length}
+use Rattle.std.specs.Prelude.{ℕ, Bool, true, false, ◌&&◌, ◌||◌, not, List, [], ◌∷◌, map, eqb, length}
 use Rattle.text.specs.Bytes.{Bytes, bytes, member}
 use Rattle.text.specs.Characters.{letter, letter_or_digit}
 use Rattle.rules.specs.Choice.{choose, every, passed}
 use Rattle.rules.specs.Lexemes.{space, ampersand, apostrophe, comma, period, Lex, byte, mark, ref, lone, byte_of, is_plain, Before, field_start, lexed, Inside, outside, enters, is_bare}
 use Rattle.rules.specs.Fields.{is_empty}
-use Rattle.rules.specs.Statement.{Set, set_a, set_b, set_c, Line, Does, passes, ends, exits, text, models, sets, branches_if, branches, counts}
+use Rattle.rules.specs.Statement.{set_a, set_b, set_c, Line, Does, passes, ends, exits, text, models, sets, branches_if, branches, counts}
 use Rattle.rules.specs.Machine.{is_language_word}
 
 module _ {R : Type 0} where

@@ -1,5 +1,5 @@
 -- The meaning of every deck: refused where it is not in good form, else the machine over what it stands for.
-use Rattle.std.specs.Prelude.{ℕ, Bool, ltb, length}
+use Rattle.std.specs.Prelude.{ℕ, ltb, length}
 use Rattle.std.proofs.Math.Option.{Option, none, some}
 use Rattle.text.specs.Bytes.{Bytes}
 use Rattle.rules.specs.Choice.{choose}

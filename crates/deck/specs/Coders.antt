@@ -1,11 +1,11 @@
 -- The deck's coding: a byte for each lexeme, counts in two bytes.
-use Rattle.std.specs.Prelude.{ℕ, zero, suc, ◌+◌, ◌-◌, Bool, true, false, ◌&&◌, List, [], ◌∷◌, ◌++◌, eqb, leb, ltb, length, drop, get_or}
+use Rattle.std.specs.Prelude.{ℕ, ◌+◌, ◌-◌, Bool, true, false, List, [], ◌∷◌, ◌++◌, eqb, ltb, length}
 use Rattle.std.proofs.Math.Option.{Option, none, some}
 use Rattle.text.specs.Bytes.{Bytes}
 use Rattle.rules.specs.Choice.{choose}
 use Rattle.rules.specs.Lexemes.{Lex, byte as char, mark, ref, lone}
 use Rattle.rules.specs.Statement.{Set, set_a, set_b, set_c, Line, Does, passes, ends, exits, text, models, sets, branches_if, branches, counts, doing}
-use Rattle.deck.specs.Coding.{Read, after, made, Coder, get_byte, byte, two, four, pair, via, list_of}
+use Rattle.deck.specs.Coding.{Read, after, Coder, get_byte, byte, two, four, pair, via, list_of}
 use Rattle.deck.specs.Slots.{Slot, own, shared, list, index, section, nowhere, DeckMacro, Deck}
 
 -- a lexeme is one byte: text below 127 as itself, 127 an attribute mark, 128 + s a level's own slot s, 192 + g global g, 224 to 226 &SYSLIST, &SYSNDX, &SYSECT

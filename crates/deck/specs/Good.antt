@@ -1,18 +1,17 @@
 -- The test of good form: which decks are expanded. A translated deck meets it (`demands`); of every other that meets it the meaning is ByDeck.antt.
-use Rattle.std.specs.Prelude.{ℕ, zero, suc, ◌+◌, Bool, true, false, ◌&&◌, ◌||◌, not, List, [], ◌∷◌, ◌++◌, map, eqb, leb, ltb, length}
+use Rattle.std.specs.Prelude.{ℕ, suc, ◌+◌, Bool, true, false, ◌&&◌, ◌||◌, not, List, [], ◌∷◌, map, eqb, leb, ltb, length}
 use Rattle.std.proofs.Math.Option.{Option, none, some}
 use Rattle.text.specs.Bytes.{Bytes, bytes, same}
 use Rattle.text.specs.Characters.{in_set}
 use Rattle.rules.specs.Choice.{choose, every, any}
 use Rattle.rules.specs.Limits.{line_limit, name_limit, library_limit, macro_limit, parameter_limit, local_limit, global_limit, nest_limit}
-use Rattle.rules.specs.Lexemes.{Lex, byte, mark, ref, lone, is_plain, lexed, is_name, is_sequence}
-use Rattle.rules.specs.Fields.{is_ill_written, is_remark, is_copied_remark, is_dropped_remark, starts_with, Fields, fields_of, is_empty}
+use Rattle.rules.specs.Lexemes.{Lex, byte, mark, ref, lone, lexed, is_name}
+use Rattle.rules.specs.Fields.{is_ill_written, is_copied_remark, is_dropped_remark, starts_with, Fields, fields_of, is_empty}
 use Rattle.rules.specs.Statement.{Set, Line, map_line, Does, passes, ends, exits, text, models, sets, branches_if, branches, counts, is_copied}
-use Rattle.rules.specs.Grammar.{Kind}
 use Rattle.rules.specs.Form.{is_formed}
 use Rattle.rules.specs.Machine.{is_language_word}
 use Rattle.rules.specs.Faults.{is_macro_name, is_default}
-use Rattle.deck.specs.Slots.{Slot, own, shared, list, index, section, nowhere, DeckMacro, Deck, parameters, slot_kind}
+use Rattle.deck.specs.Slots.{Slot, DeckMacro, Deck, parameters, slot_kind}
 use Rattle.deck.specs.Coders.{decoded}
 use Rattle.deck.specs.AsRead.{is_read_line, is_read_default}
 

@@ -1,12 +1,12 @@
 -- A deck: a library whose names are places. Names stand in it only where they are read at expansion: macros and keywords.
-use Rattle.std.specs.Prelude.{ℕ, suc, ◌+◌, Bool, true, false, not, List, [], ◌∷◌, ◌++◌, map, ltb, length, get_or, replicate, pos}
+use Rattle.std.specs.Prelude.{ℕ, ◌+◌, Bool, false, not, List, [], ◌++◌, map, ltb, length, get_or, replicate, pos}
 use Rattle.text.specs.Bytes.{Bytes, bytes, same}
 use Rattle.text.specs.Words.{place_among}
 use Rattle.rules.specs.Choice.{choose}
 use Rattle.rules.specs.Fields.{lines_of, is_empty}
-use Rattle.rules.specs.Statement.{Set, set_a, Line, map_line, read}
+use Rattle.rules.specs.Statement.{Set, Line, map_line, read}
 use Rattle.rules.specs.Grammar.{Kind, parameter, symbol, syslist, sysndx, sysect, unknown}
-use Rattle.rules.specs.Evaluate.{Value, number, string, Store, Cell, own_cell, shared_cell, system_cell}
+use Rattle.rules.specs.Evaluate.{Value, number, string, Cell, own_cell, shared_cell, system_cell}
 use Rattle.rules.specs.Machine.{Header, Level, Machine}
 use Rattle.rules.specs.Library.{outer, macros_from, Names, firsts, seconds, globals_of, line_named}
 use Rattle.rules.specs.ByLines.{own_names, Reading, reading}

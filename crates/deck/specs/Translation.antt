@@ -1,5 +1,5 @@
 -- Translation as a definition: the deck, or number and line; and what it leaves in the deck buffer.
-use Rattle.std.specs.Prelude.{ℕ, List, ◌++◌, leb, length, drop}
+use Rattle.std.specs.Prelude.{ℕ, ◌++◌, leb, length, drop}
 use Rattle.text.specs.Bytes.{Bytes}
 use Rattle.rules.specs.Choice.{choose}
 use Rattle.rules.specs.Limits.{no_room}

@@ -4,12 +4,12 @@ use Prim.Native.Nat.{ℕ, ◌≤◌, ◌<◌}
 use native.Mathlib.Omega.{arith}
 use mathlib.Core.Path.{◌≡◌, refl, ap, sym, ◌∙◌}
 use mathlib.Core.Bool.{Bool, true, false, false≢true, ◌&&◌}
-use mathlib.Core.List.{List, [], ◌∷◌, ◌++◌}
-use mathlib.Core.Option.{Option, none, some}
+use mathlib.Core.List.{List, [], ◌∷◌}
+use mathlib.Core.Option.{none, some}
 use lib.Dec.{leb}
-use lib.ListN.{length, get_or, length-append}
+use lib.ListN.{length}
 use Rattle.text.specs.Bytes.{Bytes}
-use Rattle.rules.specs.Choice.{choose, every}
+use Rattle.rules.specs.Choice.{every}
 use Rattle.rules.specs.Limits.{no_room}
 use Rattle.rules.specs.Statement.{Line}
 use Rattle.rules.specs.ByLines.{by_lines}
@@ -18,9 +18,9 @@ use Rattle.rules.proofs.Choices.{by, chosen, passed_over}
 use Rattle.rules.proofs.Logic.{All, all-at}
 use Rattle.rules.proofs.OneKind.{one-kind}
 use Rattle.deck.specs.Slots.{Slot, DeckMacro, Deck, no_macro, resolved_library}
-use Rattle.deck.specs.Coding.{Coder, four}
+use Rattle.deck.specs.Coding.{four}
 use Rattle.deck.specs.Coders.{contents, encoded, decoded}
-use Rattle.deck.specs.Good.{are_lexemes, is_sound, is_read_macro, is_good, if_good, good_deck}
+use Rattle.deck.specs.Good.{is_sound, is_read_macro, is_good, if_good, good_deck}
 use Rattle.deck.specs.ByDeck.{by_deck}
 use Rattle.deck.specs.Translation.{Translated, deck, refused, deck_of, translated_by, translated}
 use Rattle.deck.proofs.Coding.{deck-back, deck-bytes}

@@ -1,7 +1,7 @@
 -- Lexemes whose variable symbols are given other names: what is read from them that is no name stays, and names are renamed.
 use Prim.Native.Nat.{ℕ, zero, suc, pred}
 use mathlib.Core.Path.{◌≡◌, refl, ap, sym, ◌∙◌}
-use mathlib.Core.Bool.{Bool, true, false, false≢true, ◌&&◌, not}
+use mathlib.Core.Bool.{Bool, true, false≢true, ◌&&◌, not}
 use mathlib.Core.List.{List, [], ◌∷◌, ◌++◌, map}
 use lib.Dec.{eqb, ltb}
 use lib.ListN.{length, take, drop}

@@ -1,6 +1,6 @@
 -- Two libraries that differ only by a one-for-one renaming, within each macro, of positional parameters, local SET symbols and sequence symbols (and of the name
 -- parameter): a relation on their bytes, through the rules' own reader. What is read as a symbol is renamed; every other byte is the same.
-use Rattle.std.specs.Prelude.{ℕ, ◌≡◌, Bool, true, false, List, [], ◌∷◌, ◌++◌, map, take, drop}
+use Rattle.std.specs.Prelude.{◌≡◌, Bool, true, false, List, [], ◌∷◌, ◌++◌, map, take, drop}
 use Rattle.text.specs.Bytes.{Bytes, bytes, same}
 use Rattle.rules.specs.Choice.{any}
 use Rattle.rules.specs.Lexemes.{period, Lex, lexed, unlexed, is_sequence}

@@ -1,9 +1,8 @@
 -- The definitions, opened for computing: what a line does in a small macro, and what expanding gives. Statements that are computed name only these two.
 use Prim.Native.Nat.{ℕ}
 use mathlib.Core.Bool.{false}
-use mathlib.Core.List.{List, [], ◌∷◌}
-use mathlib.Core.Option.{Option}
-use lib.IntN.{ℤ, pos}
+use mathlib.Core.List.{[], ◌∷◌}
+use lib.IntN.{ℤ}
 use Rattle.text.specs.Bytes.{Bytes, bytes}
 use Rattle.text.specs.Characters as Characters
 use Rattle.text.specs.Words as Words

@@ -1,7 +1,6 @@
 -- 01's example, and the readings that 01 rejects, computed on their bytes.
-use Prim.Native.Nat.{ℕ}
 use mathlib.Core.Path.{◌≡◌, refl}
-use mathlib.Core.List.{List, [], ◌∷◌, ◌++◌}
+use mathlib.Core.List.{[], ◌++◌}
 use Rattle.text.specs.Bytes.{Bytes, bytes}
 use Rattle.rules.specs.Machine.{done, refused}
 use Rattle.rules.specs.Faults.{accepted, faulty}

@@ -1,15 +1,14 @@
 -- What holds for every library, program and buffers, with no deck in sight: the run ends, and every refusal is one of 01's for its place.
 use Prim.Native.Nat.{ℕ, suc}
 use mathlib.Core.Path.{◌≡◌, refl, subst}
-use mathlib.Core.Bool.{Bool, true, false}
+use mathlib.Core.Bool.{true}
 use mathlib.Core.List.{List, [], ◌∷◌}
 use mathlib.Core.Option.{Option, none, some}
 use lib.ListN.{length}
 use Rattle.text.specs.Bytes.{Bytes, member}
-use Rattle.rules.specs.Choice.{choose}
 use Rattle.rules.specs.Limits.{bad_byte, out_of_place, bad_name, ill_formed, over_limit}
 use Rattle.rules.specs.Fields.{lines_of, is_ill_written}
-use Rattle.rules.specs.Machine.{Answer, begun, enough, Outcome, outcome, expansion}
+use Rattle.rules.specs.Machine.{Answer, begun, enough, outcome}
 use Rattle.rules.specs.Places.{is_of01}
 use Rattle.rules.specs.Library.{Place, outer, at_prototype, in_body}
 use Rattle.rules.specs.ByLines.{machine_of_lines, by_lines}

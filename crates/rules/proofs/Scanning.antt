@@ -1,14 +1,13 @@
 -- Scans by place: what one more element decides. These are the steps of every loop that scans. Assumes nothing.
 use Prim.Native.Nat.{ℕ, suc, ◌+◌, ◌≤◌, ◌<◌}
-use native.Mathlib.Nat.{add-zero}
 use native.Mathlib.Numerals.{add-one}
 use native.Mathlib.Omega.{arith}
-use mathlib.Core.Path.{◌≡◌, refl, ap, sym, ◌∙◌}
+use mathlib.Core.Path.{◌≡◌}
 use mathlib.Core.Bool.{Bool, true, false}
-use mathlib.Core.List.{List, [], ◌∷◌}
+use mathlib.Core.List.{List}
 use lib.ListN.{length, get_or, drop, drop_of_length-le}
 use lib.Seq.{drop-cons}
-use Rattle.rules.specs.Choice.{passed, run}
+use Rattle.rules.specs.Choice.{run}
 use Rattle.rules.proofs.Choices.{chosen, passed_over}
 
 module _ {A : Type 0} (test : A → Bool) (l : List A) (i : ℕ) where

@@ -174,8 +174,8 @@ each-proper (found {n = n} {m = m} {ts = ts} {gs = gs} l more more₂ e f g b h)
   each-proper h,
 )
 
-pub body_of : {p : Bytes} {n m : ℕ} {ts : List Bytes} {gs : List (Bytes × Set)} {before rest : List Bytes} → Lines p m ts n gs before rest → Body p before rest
-body_of {n = n} {m = m} {ts = ts} {gs = gs} (end more e f) =
+pub body_of : {p : Bytes} {m : ℕ} {ts : List Bytes} {n : ℕ} {gs : List (Bytes × Set)} {before rest : List Bytes} → Lines p m ts n gs before rest → Body p before rest
+body_of {m = m} {ts = ts} {n = n} {gs = gs} (end more e f) =
     last e (record { lines = n; macros = m; titles = ts; globals = gs; more = more; is-faultless = f })
-body_of {n = n} {m = m} {ts = ts} {gs = gs} (next more e f b) =
+body_of {m = m} {ts = ts} {n = n} {gs = gs} (next more e f b) =
     line e (record { lines = n; macros = m; titles = ts; globals = gs; more = more; is-faultless = f }) (body_of b)

@@ -1,13 +1,13 @@
 -- The meaning of a library's own lines: a body line is read from its bytes when it is reached, a branch searches the lines for its target, values are looked up by
 -- name. No deck, coding, slot or translation occurs here.
-use Rattle.std.specs.Prelude.{ℕ, zero, suc, Bool, true, false, ◌&&◌, ◌||◌, not, List, [], ◌∷◌, ◌++◌, map, ltb, length, get_or, replicate, pos}
+use Rattle.std.specs.Prelude.{ℕ, not, List, [], ◌++◌, map, ltb, length, get_or, pos}
 use Rattle.text.specs.Bytes.{Bytes, bytes, same}
 use Rattle.text.specs.Words.{place_among}
 use Rattle.rules.specs.Choice.{choose}
 use Rattle.rules.specs.Fields.{lines_of, is_empty}
-use Rattle.rules.specs.Statement.{Set, set_a, set_b, set_c, Line, map_line, read}
+use Rattle.rules.specs.Statement.{Set, set_a, Line, map_line, read}
 use Rattle.rules.specs.Grammar.{Kind, parameter, symbol, syslist, sysndx, sysect, unknown}
-use Rattle.rules.specs.Evaluate.{Value, number, truth, string, Store, Cell, own_cell, shared_cell, system_cell}
+use Rattle.rules.specs.Evaluate.{Value, number, string, Store, Cell, own_cell, shared_cell, system_cell}
 use Rattle.rules.specs.Machine.{Header, Level, Machine, Outcome, outcome}
 use Rattle.rules.specs.Library.{Macro, outer, macros_from, operation_of, Names, names_in, firsts, seconds, parameter_names, globals_of, line_named}
 

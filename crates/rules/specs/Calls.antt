@@ -1,8 +1,8 @@
 -- Document 01, "Expanding": the operands of a call, and the layout of a line.
-use Rattle.std.specs.Prelude.{ℕ, zero, suc, ◌-◌, Bool, true, false, ◌&&◌, ◌||◌, not, List, [], ◌∷◌, ◌++◌, map, eqb, leb, ltb, length, take, drop, replicate}
+use Rattle.std.specs.Prelude.{ℕ, suc, ◌-◌, Bool, false, ◌&&◌, ◌||◌, not, List, [], ◌∷◌, ◌++◌, map, eqb, ltb, length, take, drop, replicate}
 use Rattle.std.proofs.Math.Option.{Option, none, some}
 use Rattle.text.specs.Bytes.{Bytes, same}
-use Rattle.rules.specs.Choice.{choose, passed, any, on_first}
+use Rattle.rules.specs.Choice.{choose, passed, on_first}
 use Rattle.rules.specs.Limits.{name_limit}
 use Rattle.rules.specs.Lexemes.{space, closing, comma, equals, Lex, byte_of, Inside, outside, enters, is_bare, is_name}
 use Rattle.rules.specs.Fields.{is_empty}

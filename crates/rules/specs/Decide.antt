@@ -1,13 +1,13 @@
 -- What one body line does, once each variable symbol stands for its cell and each branch target for a line's number. No name, no slot and no deck occurs here.
-use Rattle.std.specs.Prelude.{ℕ, zero, suc, Bool, true, false, ◌&&◌, ◌||◌, not, List, [], ◌∷◌, eqb, leb, ltb, length, ℤ, pos, negsuc}
-use Rattle.std.proofs.Math.Option.{Option, none, some}
+use Rattle.std.specs.Prelude.{ℕ, Bool, List, [], ◌∷◌, leb, length, ℤ, pos, negsuc}
+use Rattle.std.proofs.Math.Option.{Option}
 use Rattle.text.specs.Bytes.{Bytes}
 use Rattle.rules.specs.Choice.{choose}
 use Rattle.rules.specs.Limits.{nest_limit, counter_limit, ill_formed, too_long, bad_value}
 use Rattle.rules.specs.Lexemes.{Lex, byte, mark, ref, lone}
 use Rattle.rules.specs.Statement.{Set, set_a, set_b, set_c, Line, Does, passes, ends, exits, text, models, sets, branches_if, branches, counts}
 use Rattle.rules.specs.Grammar.{Got, got, refused, whole, arithmetic, text_within, string_within, condition}
-use Rattle.rules.specs.Evaluate.{Value, number, truth, string, Store, Cell, Chars, Truth, values}
+use Rattle.rules.specs.Evaluate.{Value, number, truth, string, Store, Cell, Chars, values}
 use Rattle.rules.specs.Calls.{Operands, operands_of, map_operands}
 
 pub data Act : Type 0 where

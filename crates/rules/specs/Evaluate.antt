@@ -1,11 +1,10 @@
 -- Document 01, "Values": what references, expressions and conditions stand for when a line is carried out.
-use Rattle.std.specs.Prelude.{ℕ, zero, suc, pred, Bool, true, false, ◌&&◌, ◌||◌, not, List, [], ◌∷◌, ◌++◌, map, eqb, leb, ltb, length, get_or, set, ℤ, pos, negsuc}
+use Rattle.std.specs.Prelude.{ℕ, pred, Bool, false, ◌&&◌, ◌||◌, not, List, [], ◌∷◌, ◌++◌, ltb, length, get_or, set, ℤ, pos}
 use Rattle.std.proofs.Math.Option.{Option, none, some}
-use Rattle.text.specs.Bytes.{Bytes, bytes}
-use Rattle.rules.specs.Choice.{choose}
+use Rattle.text.specs.Bytes.{Bytes}
 use Rattle.rules.specs.Limits.{string_limit}
-use Rattle.rules.specs.Statement.{Set, set_a, set_b, set_c}
-use Rattle.rules.specs.Values.{operate, shown_number, shown_truth, four_digits, magnitude, number_in, type_of, substring, string_order, number_order, Relation, holds, number_of_entries, entry, listed}
+use Rattle.rules.specs.Statement.{set_a, set_b, set_c}
+use Rattle.rules.specs.Values.{operate, shown_number, shown_truth, four_digits, magnitude, number_in, type_of, substring, string_order, number_order, holds, number_of_entries, entry, listed}
 use Rattle.rules.specs.Grammar.{Kind, parameter, symbol, syslist, sysndx, sysect, unknown, Reference, Sense}
 
 -- what a SET symbol or a parameter holds

@@ -1,17 +1,17 @@
 -- Document 01, "Refusal numbers and places", for translation: each number 1 to 5 is a test of its own over a line and its surroundings; the answer is the lowest
 -- faulty line with the lowest number on it.
-use Rattle.std.specs.Prelude.{ℕ, zero, suc, ◌+◌, Bool, true, false, ◌&&◌, ◌||◌, not, List, [], ◌∷◌, ◌++◌, map, eqb, leb, ltb, length, take, drop, get_or}
+use Rattle.std.specs.Prelude.{ℕ, suc, ◌+◌, Bool, true, false, ◌&&◌, ◌||◌, not, List, [], ◌∷◌, ◌++◌, eqb, leb, ltb, length, take, drop, get_or}
 use Rattle.std.proofs.Math.Option.{Option, none, some}
 use Rattle.text.specs.Bytes.{Bytes, bytes, same}
 use Rattle.text.specs.Words.{place_among, words}
-use Rattle.rules.specs.Choice.{choose, every, any, count}
-use Rattle.rules.specs.Limits.{name_limit, macro_name_limit, library_limit, macro_limit, parameter_limit, local_limit, global_limit, nest_limit, bad_byte, out_of_place, bad_name, ill_formed, over_limit}
+use Rattle.rules.specs.Choice.{choose, every, any}
+use Rattle.rules.specs.Limits.{macro_name_limit, library_limit, macro_limit, parameter_limit, local_limit, global_limit, nest_limit, bad_byte, out_of_place, bad_name, ill_formed, over_limit}
 use Rattle.rules.specs.Lexemes.{Lex, is_plain, lexed, unlexed, refs_in, is_long, is_name, sequence_start, is_sequence, outside}
 use Rattle.rules.specs.Fields.{lines_of, is_ill_written, starts_with, is_remark, Fields, fields_of, statement_fields, is_empty}
-use Rattle.rules.specs.Statement.{Set, set_a, set_b, set_c, Statement, macro, mend, mexit, local, global, set, aif, ago, anop, actr, model, statement_of, condition_end, Line, map_line, read}
+use Rattle.rules.specs.Statement.{Set, set_a, Statement, macro, mend, mexit, local, global, set, aif, ago, anop, actr, model, statement_of, condition_end, Line, map_line, read}
 use Rattle.rules.specs.Grammar.{Kind, parameter, symbol, syslist, sysndx, sysect, unknown}
 use Rattle.rules.specs.Form.{same_set, is_formed, any_nesting}
-use Rattle.rules.specs.Calls.{pair_up, divided, equals_at, has_equals, is_among}
+use Rattle.rules.specs.Calls.{pair_up, equals_at, has_equals}
 use Rattle.rules.specs.Library.{Place, outer, at_prototype, in_body, operation_of, is_macro, is_mend, is_one_symbol, start_symbol, start_symbols, operand_parts, locals_on, globals_on, Names, names_in, firsts, seconds, parameter_names, with_globals, is_named}
 
 -- What the lines before a line have brought: how many they are and how many of them are MACRO lines, the macros' names, the library's globals, and where the line stands.

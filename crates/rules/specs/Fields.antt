@@ -1,10 +1,10 @@
 -- Document 01, "Lines and fields": lines, remarks, the fields of a statement.
-use Rattle.std.specs.Prelude.{ℕ, zero, suc, Bool, true, false, ◌&&◌, ◌||◌, not, List, [], ◌∷◌, ◌++◌, eqb, leb, ltb, length, take, drop}
+use Rattle.std.specs.Prelude.{ℕ, Bool, true, false, ◌&&◌, ◌||◌, not, List, [], ◌∷◌, eqb, ltb, length, take, drop}
 use Rattle.text.specs.Bytes.{Bytes, bytes, same}
 use Rattle.text.specs.Characters.{in_set}
 use Rattle.rules.specs.Choice.{choose, passed, run, every, on_first}
 use Rattle.rules.specs.Limits.{line_limit}
-use Rattle.rules.specs.Lexemes.{space, apostrophe, period, Lex, byte_of, field_start, marked, Inside, outside, enters}
+use Rattle.rules.specs.Lexemes.{space, Lex, byte_of, field_start, marked, Inside, outside, enters}
 
 abbrev pub newline : ℕ
 newline = 10

@@ -1,6 +1,6 @@
 -- Document 01, "Values" and "Lines and fields": how texts and expressions are formed. What their terms and operators stand for is left open (`Sense`), so that
 -- one grammar serves the test of form (specs/Form.antt) and the evaluation (specs/Evaluate.antt).
-use Rattle.std.specs.Prelude.{ℕ, zero, suc, Bool, true, false, ◌&&◌, ◌||◌, not, List, [], ◌∷◌, ◌++◌, map, eqb, leb, ltb, length, take, drop}
+use Rattle.std.specs.Prelude.{ℕ, zero, suc, Bool, true, false, ◌&&◌, ◌||◌, not, List, [], ◌∷◌, map, eqb, ltb, length, take, drop}
 use Rattle.std.proofs.Math.Option.{Option, none, some}
 use Rattle.text.specs.Bytes.{Bytes, bytes, member, same}
 use Rattle.text.specs.Characters.{letter, digit, letter_or_digit}

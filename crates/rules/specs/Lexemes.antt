@@ -1,8 +1,7 @@
 -- Document 01, "Lines and fields": what the bytes of a field are. Nothing is lost: `unlexed` gives the bytes back (proofs/Lossless.antt).
-use Rattle.std.specs.Prelude.{ℕ, zero, suc, pred, Bool, true, false, ◌&&◌, ◌||◌, not, List, [], ◌∷◌, ◌++◌, map, eqb, leb, ltb, length, take}
-use Rattle.std.proofs.Math.Option.{Option, none, some}
-use Rattle.text.specs.Bytes.{Bytes, bytes, member, same}
-use Rattle.text.specs.Characters.{letter, digit, letter_or_digit}
+use Rattle.std.specs.Prelude.{ℕ, suc, pred, Bool, true, false, ◌&&◌, ◌||◌, not, List, [], ◌∷◌, ◌++◌, eqb, leb, ltb, length, take}
+use Rattle.text.specs.Bytes.{Bytes, bytes, member}
+use Rattle.text.specs.Characters.{letter, letter_or_digit}
 use Rattle.rules.specs.Choice.{choose, run}
 use Rattle.rules.specs.Limits.{name_limit}
 

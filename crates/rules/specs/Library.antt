@@ -1,11 +1,10 @@
 -- Document 01, "Definitions": a library's macros, and the names that each of them declares.
-use Rattle.std.specs.Prelude.{ℕ, zero, suc, Bool, true, false, ◌&&◌, ◌||◌, not, List, [], ◌∷◌, ◌++◌, map, length, take, drop}
-use Rattle.std.proofs.Math.Option.{Option, none, some}
+use Rattle.std.specs.Prelude.{ℕ, suc, Bool, true, false, ◌&&◌, List, [], ◌∷◌, ◌++◌, drop}
 use Rattle.text.specs.Bytes.{Bytes, bytes, same}
 use Rattle.rules.specs.Choice.{choose}
 use Rattle.rules.specs.Lexemes.{Lex, byte, mark, ref, lone, lexed, unlexed, is_sequence}
 use Rattle.rules.specs.Fields.{Fields, fields_of, statement_fields}
-use Rattle.rules.specs.Statement.{Set, set_a, set_b, set_c, Statement, macro, mend, mexit, local, global, set, aif, ago, anop, actr, model, statement_of}
+use Rattle.rules.specs.Statement.{Set, Statement, macro, mend, mexit, local, global, set, aif, ago, anop, actr, model, statement_of}
 use Rattle.rules.specs.Calls.{divided, equals_at, has_equals, is_among}
 
 -- 01: "MACRO, prototype, body, MEND." A macro's body has MEND as its last line.

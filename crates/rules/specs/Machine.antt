@@ -1,15 +1,15 @@
 -- Document 01, "Expanding", "Deck and workspace", "Refusal numbers and places": a program is expanded by a machine. The machine is what is the same whether
 -- a library's lines or a deck are read: levels, counters, call numbers, &SYSECT, room, steps, places.
-use Rattle.std.specs.Prelude.{ℕ, zero, suc, pred, ◌+◌, ◌*◌, ◌-◌, Bool, true, false, ◌&&◌, ◌||◌, not, List, [], ◌∷◌, ◌++◌, map, eqb, leb, ltb, length, take, drop, get_or, replicate, pos}
+use Rattle.std.specs.Prelude.{ℕ, zero, suc, pred, ◌+◌, ◌*◌, ◌-◌, Bool, true, false, ◌||◌, List, [], ◌∷◌, ◌++◌, map, eqb, ltb, length, drop, get_or, replicate, pos}
 use Rattle.std.proofs.Math.Option.{Option, none, some}
 use Rattle.text.specs.Bytes.{Bytes, bytes, same}
 use Rattle.text.specs.Words.{place_among, words}
 use Rattle.rules.specs.Choice.{choose, every}
 use Rattle.rules.specs.Limits.{line_limit, counter_limit, call_limit, level_limit, open_limit, workspace_size, bad_byte, over_limit, bad_call, too_long, counter_spent, level_six, calls_spent, short_workspace, no_room, language_word, steps_spent}
 use Rattle.rules.specs.Lexemes.{is_plain, lexed, unlexed, is_sequence}
-use Rattle.rules.specs.Fields.{newline, lines_of, is_ill_written, is_remark, Fields, fields_of, statement_fields, is_empty}
+use Rattle.rules.specs.Fields.{newline, lines_of, is_ill_written, statement_fields, is_empty}
 use Rattle.rules.specs.Statement.{Set, set_a, set_b, set_c, Line}
-use Rattle.rules.specs.Evaluate.{Value, number, truth, string, Store, Cell}
+use Rattle.rules.specs.Evaluate.{Value, number, truth, string, Cell}
 use Rattle.rules.specs.Calls.{Operands, operands_of, map_operands, is_among, laid_out, trimmed}
 use Rattle.rules.specs.Decide.{Act, next, leave, jump, renew, keep, use', state, refuse, decide}
 

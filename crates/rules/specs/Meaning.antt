@@ -3,7 +3,7 @@ use Rattle.std.specs.Prelude.{ℕ}
 use Rattle.text.specs.Bytes.{Bytes}
 use Rattle.rules.specs.Machine.{Outcome}
 use Rattle.rules.specs.ByLines.{by_lines}
-use Rattle.rules.specs.Faults.{Verdict, accepted, faulty, verdict}
+use Rattle.rules.specs.Faults.{accepted, faulty, verdict}
 
 pub data Meaning : Type 0 where
   -- number and line; nothing is expanded

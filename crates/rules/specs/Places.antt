@@ -1,5 +1,5 @@
 -- Document 01, "Refusal numbers and places": which numbers an expansion can give at which place.
-use Rattle.std.specs.Prelude.{ℕ, zero, suc, Bool, true, false, List, [], ◌∷◌}
+use Rattle.std.specs.Prelude.{ℕ, zero, suc, Bool, true, List, [], ◌∷◌}
 use Rattle.text.specs.Bytes.{member}
 use Rattle.rules.specs.Limits.{bad_byte, over_limit, bad_call, too_long, bad_value, counter_spent, level_six, calls_spent, bad_deck, short_workspace, no_room, language_word}
 use Rattle.rules.specs.Machine.{Answer, done, refused}

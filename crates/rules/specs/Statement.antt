@@ -1,6 +1,6 @@
 -- What a line of a definition says: its statement, its fields as lexemes, its branch target.
-use Rattle.std.specs.Prelude.{ℕ, zero, suc, pred, Bool, true, false, ◌&&◌, ◌||◌, not, List, [], ◌∷◌, ◌++◌, map, eqb, length, take, drop, get_or}
-use Rattle.text.specs.Bytes.{Bytes, bytes}
+use Rattle.std.specs.Prelude.{ℕ, suc, Bool, true, false, ◌&&◌, not, List, [], ◌∷◌, map, eqb, take, drop, get_or}
+use Rattle.text.specs.Bytes.{Bytes}
 use Rattle.text.specs.Words.{word_number}
 use Rattle.rules.specs.Choice.{choose, passed, every}
 use Rattle.rules.specs.Lexemes.{opening, closing, Lex, byte, mark, ref, lone, byte_of, is_plain, lexed, unlexed, is_sequence, Inside, outside, enters}

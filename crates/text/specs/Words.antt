@@ -1,5 +1,5 @@
 -- The sixteen language words of document 01, "Definitions", and which of them an operation is. Assumes nothing.
-use Rattle.std.specs.Prelude.{ℕ, suc, Bool, true, false, List, [], ◌∷◌}
+use Rattle.std.specs.Prelude.{ℕ, suc, true, false, List, [], ◌∷◌}
 use Rattle.text.specs.Bytes.{Bytes, bytes, same}
 
 -- 01: "The sixteen language words are MACRO MEND MEXIT LCLA LCLB LCLC GBLA GBLB GBLC SETA SETB SETC AIF AGO ANOP ACTR."
