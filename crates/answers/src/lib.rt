@@ -1,10 +1,12 @@
 // The batch format of docs/BATCH.md: numbers in decimal, and what an answer says behind its id.
+#![tactic(auto)]
+
 ghost use Rattle.std.specs.Prelude.{◌≡◌, ◌+◌, ◌≤◌, length, drop};
 ghost use Rattle.lent.specs.Splice.{splice};
 ghost use Rattle.answers.specs.Answers.{decimal_of, spaced, refused_answer, deck_answer};
 
 // A number's digits: those of `bytes` from `from` on.
-#[derive(Drop)]
+#[derive(Clone, Copy)]
 struct Digits {
     bytes: [u8; 20],
     from: usize,

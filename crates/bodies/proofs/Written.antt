@@ -9,7 +9,7 @@ use lib.Dec.{eqb}
 use lib.ListN.{length, take, drop, get_or, length-append, length-drop}
 use lib.Seq.{take-append_seam}
 use borrow.Author.Tests.{eq-eqb, ne_eqb, eqb-true, eqb-false}
-use Rattle.text.specs.Bytes.{Bytes, bytes}
+use Rattle.text.specs.Bytes.{Bytes}
 use Rattle.text.specs.Words.{word_number}
 use Rattle.rules.specs.Choice.{passed}
 use Rattle.rules.specs.Lexemes.{Before, marked, after, is_sequence, enters, outside, field_start}

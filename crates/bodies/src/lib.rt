@@ -1,4 +1,6 @@
 // A macro's body in a deck: each line's bytes by the tables of names, all lines counted.
+#![tactic(auto)]
+
 ghost use Rattle.std.specs.Prelude.{◌≡◌, ◌+◌, ◌-◌, ◌≤◌, ◌<◌, length, drop};
 ghost use Rattle.rules.specs.Fields.{lines_of, is_copied_remark, is_dropped_remark};
 ghost use Rattle.rules.specs.Statement.{statements};

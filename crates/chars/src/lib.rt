@@ -1,4 +1,6 @@
 // Which bytes are legal, and which of them are letters and digits: document 01, "Lines and fields".
+#![tactic(auto)]
+
 ghost use Rattle.std.specs.Prelude.{◌≡◌};
 ghost use Rattle.text.specs.Characters.{in_set, letter, digit, letter_or_digit};
 

@@ -1,17 +1,17 @@
 -- The fields around what the grammar reads, by the word's number. Assumes nothing.
-use Prim.Native.Nat.{ℕ, zero, suc, ◌≤◌, ◌<◌}
+use Prim.Native.Nat.{ℕ, suc, ◌≤◌, ◌<◌}
 use native.Mathlib.Omega.{arith}
-use mathlib.Core.Path.{◌≡◌, refl, ap, sym, ◌∙◌}
-use mathlib.Core.Bool.{Bool, true, false, ◌&&◌, not}
-use mathlib.Core.List.{List, [], ◌∷◌}
+use mathlib.Core.Path.{◌≡◌, refl, ◌∙◌}
+use mathlib.Core.Bool.{Bool, true, ◌&&◌, not}
+use mathlib.Core.List.{[], ◌∷◌}
 use lib.Dec.{eqb}
 use lib.ListN.{length}
 use borrow.Author.Tests.{ne_eqb}
 use Rattle.text.specs.Bytes.{Bytes}
 use Rattle.rules.specs.Choice.{every}
 use Rattle.rules.specs.Lexemes.{lexed, is_sequence}
-use Rattle.rules.specs.Fields.{Fields, is_empty}
-use Rattle.rules.specs.Statement.{Statement, statements}
+use Rattle.rules.specs.Fields.{is_empty}
+use Rattle.rules.specs.Statement.{statements}
 use Rattle.rules.specs.Calls.{divided}
 use Rattle.rules.specs.Library.{is_one_symbol, operand_parts}
 use Rattle.rules.specs.Faults.{is_declaration, is_named_or_empty, is_model_name}

@@ -2,33 +2,33 @@
 use Prim.Native.Nat.{ℕ, ◌+◌}
 use mathlib.Core.Path.{◌≡◌, refl, ap, sym, ◌∙◌, subst}
 use mathlib.Core.Bool.{Bool, true, false, ◌&&◌, ◌||◌, not}
-use mathlib.Core.List.{List, [], ◌∷◌, ◌++◌, map}
+use mathlib.Core.List.{List, ◌∷◌}
 use lib.Dec.{ltb}
 use lib.ListN.{length}
-use Rattle.text.specs.Bytes.{Bytes, same}
-use Rattle.rules.specs.Choice.{choose, any, count}
+use Rattle.text.specs.Bytes.{Bytes}
+use Rattle.rules.specs.Choice.{choose, any}
 use Rattle.rules.specs.Limits.{nest_limit, local_limit, global_limit}
-use Rattle.rules.specs.Lexemes.{Lex, lexed, is_sequence}
+use Rattle.rules.specs.Lexemes.{lexed}
 use Rattle.rules.specs.Fields.{Fields, fields_of, is_empty, is_remark, statement_fields}
 use Rattle.rules.specs.Statement.{Set, Statement, macro, mend, mexit, local, global, set, aif, ago, anop, actr, model, statement_of, Line, map_line, says, read}
 use Rattle.rules.specs.Grammar.{Kind}
 use Rattle.rules.specs.Form.{is_formed, any_nesting}
-use Rattle.rules.specs.Library.{in_body, Names, names_in, firsts, start_symbols, operand_parts, operation_of, of_kind, locals_by, locals_on, globals_by, globals_on, with_globals}
+use Rattle.rules.specs.Library.{in_body, Names, names_in, start_symbols, operand_parts, operation_of, locals_by, locals_on, globals_by, globals_on, with_globals}
 use Rattle.rules.specs.Faults.{Around, ends_declarations, is_misplaced, is_out_of_place, kind_named, has_unknown, is_declared, is_long_sequence, has_long_symbol, is_used_twice, declares_wrongly, has_other_kind, has_bad_body_name, has_bad_name, are_fields_good, kinds_of, is_ill_formed, is_past}
-use Rattle.rules.proofs.Choices.{chosen, passed_over, by}
+use Rattle.rules.proofs.Choices.{passed_over, by}
 use Rattle.rules.proofs.Logic.{or_left, or_right}
 use Rattle.rules.proofs.ReadLines.{InSet, Holds, fields-held, Reads, line_reads}
 use Rattle.rules.proofs.BodyLines.{AllKnown, statement-known}
 use Rattle.rules.proofs.Said.{statement-says}
 use Rattle.names.specs.Names.{slot_byte}
-use Rattle.coding.specs.Coded.{code_by, field_code}
+use Rattle.coding.specs.Coded.{field_code}
 use Rattle.targets.proofs.Coded.{start-coded, sequence-coded, slot-byte-high, slot-byte-ends, slot-byte-other}
-use Rattle.symbols.specs.Held.{Held, unknown_in}
+use Rattle.symbols.specs.Held.{Held}
 use Rattle.shapes.specs.Shapes.{target_text, Spelt}
 use Rattle.shapes.proofs.Spelt.{spelt}
 use Rattle.declaring.specs.Declared.{symbols_in}
 use Rattle.filling.proofs.Counts.{grown-count}
-use Rattle.checking.specs.Body.{first_of, misplaced, Tables, bad_symbols, good_fields, nesting_of, formed_code, too_many, name_code, operation_code, operand_code, code_of, shape_in, target_code, has_bad_name_in, does_on, is_ill_formed_in, is_past_in, statement_fault}
+use Rattle.checking.specs.Body.{first_of, misplaced, Tables, nesting_of, formed_code, name_code, operation_code, operand_code, code_of, shape_in, target_code, has_bad_name_in, does_on, is_ill_formed_in, is_past_in, statement_fault}
 use Rattle.checking.proofs.Symbols.{declares-either, name-unknown, bad-symbols}
 use Rattle.checking.proofs.Formed.{good-fields, formed-coded, nesting-coded}
 use Rattle.checking.proofs.Counted.{past, too-many}

@@ -1,19 +1,18 @@
 -- Number 5 of a declaration: how many symbols a macro and a library have with it. Assumes nothing.
-use Prim.Native.Nat.{ℕ, zero, suc, ◌+◌, ◌≤◌, ◌<◌}
+use Prim.Native.Nat.{ℕ, suc, ◌+◌}
 use native.Mathlib.Omega.{arith}
 use mathlib.Core.Path.{◌≡◌, refl, ap, sym, ◌∙◌}
-use mathlib.Core.Bool.{Bool, true, false, ◌&&◌, ◌||◌, not, or-false}
-use mathlib.Core.List.{List, [], ◌∷◌, ◌++◌}
+use mathlib.Core.Bool.{Bool, ◌&&◌, ◌||◌, not, or-false}
+use mathlib.Core.List.{List, [], ◌∷◌}
 use lib.Dec.{ltb}
 use lib.ListN.{length}
-use borrow.Author.Tests.{lt-ltb, le-ltb}
+use borrow.Author.Tests.{lt-ltb}
 use Rattle.text.specs.Bytes.{Bytes, same}
 use Rattle.rules.specs.Choice.{any, count}
 use Rattle.rules.specs.Limits.{local_limit, global_limit}
 use Rattle.rules.specs.Fields.{Fields, is_empty}
 use Rattle.rules.specs.Statement.{Set, Statement, macro, mend, mexit, local, global, set, aif, ago, anop, actr, model}
-use Rattle.rules.specs.Library.{Names, firsts, start_symbols, operand_parts, of_kind, locals_by, globals_by, with_globals}
-use Rattle.rules.specs.Faults.{declares_wrongly, is_declared}
+use Rattle.rules.specs.Library.{Names, firsts, operand_parts, of_kind, locals_by, globals_by, with_globals}
 use Rattle.rules.proofs.Symbols.{length-firsts}
 use Rattle.names.specs.Names.{names_in}
 use Rattle.symbols.specs.Held.{Held}

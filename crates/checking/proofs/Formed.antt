@@ -1,34 +1,27 @@
 -- Numbers 4 and 5 of a statement in a body: over codes and tables that hold the macro's names they are the tests of `rules`. Assumes nothing.
-use Prim.Native.Nat.{ℕ, zero, suc, ◌+◌, ◌-◌, ◌≤◌, ◌<◌, min}
+use Prim.Native.Nat.{ℕ, ◌-◌, ◌≤◌, min}
 use native.Mathlib.Omega.{arith}
-use mathlib.Core.Path.{◌≡◌, refl, ap, sym, ◌∙◌, subst}
-use mathlib.Core.Bool.{Bool, true, false, ◌&&◌, ◌||◌, not}
-use mathlib.Core.List.{List, [], ◌∷◌, ◌++◌, map}
-use lib.Dec.{ltb}
+use mathlib.Core.Path.{◌≡◌, refl, ap, sym, ◌∙◌}
+use mathlib.Core.Bool.{Bool, ◌&&◌}
+use mathlib.Core.List.{List, map}
 use lib.ListN.{length, take, drop, length-map, length-take, length-drop}
-use Rattle.text.specs.Bytes.{Bytes, same}
-use Rattle.rules.specs.Choice.{choose, any, count}
-use Rattle.rules.specs.Limits.{local_limit, global_limit}
-use Rattle.rules.specs.Lexemes.{Lex, lexed, unlexed, sequence_start, is_sequence}
-use Rattle.rules.specs.Fields.{Fields, fields_of, is_empty, is_remark, statement_fields}
-use Rattle.rules.specs.Statement.{Set, Statement, macro, mend, mexit, local, global, set, aif, ago, anop, actr, model, statement_of, Line, Does, passes, ends, exits, text, models, sets, branches_if, branches, counts, map_lex, map_does, map_line, says, read}
-use Rattle.rules.specs.Grammar.{Kind}
+use Rattle.text.specs.Bytes.{Bytes}
+use Rattle.rules.specs.Lexemes.{Lex, unlexed, is_sequence}
+use Rattle.rules.specs.Fields.{Fields}
+use Rattle.rules.specs.Statement.{Set, Statement, macro, mend, mexit, local, global, set, aif, ago, anop, actr, model, Line, Does, passes, ends, exits, text, models, sets, branches_if, branches, counts, map_lex, map_does, map_line}
 use Rattle.rules.specs.Form.{is_formed_by, is_formed, any_nesting}
-use Rattle.rules.specs.Library.{Names, start_symbols, operand_parts, of_kind, locals_by, globals_by, with_globals}
-use Rattle.rules.specs.Faults.{kind_named, target_behind, are_fields_good, is_declaration, is_named_or_empty}
-use Rattle.rules.proofs.Choices.{chosen, passed_over}
-use Rattle.rules.proofs.ReadLines.{InSet, Holds, fields-held, Reads, line_reads}
+use Rattle.rules.specs.Library.{Names, operand_parts}
+use Rattle.rules.specs.Faults.{kind_named, are_fields_good, is_declaration, is_named_or_empty}
+use Rattle.rules.proofs.ReadLines.{InSet, Reads}
 use Rattle.rules.proofs.BodyLines.{KnownIn, AllKnown}
-use Rattle.rules.proofs.Said.{statement-says}
-use Rattle.names.specs.Names.{names_in, slot_byte}
-use Rattle.coding.specs.Coded.{code_by, field_code}
+use Rattle.names.specs.Names.{slot_byte}
+use Rattle.coding.specs.Coded.{code_by}
 use Rattle.grammar.specs.Tokens.{lex_of, toks_at}
-use Rattle.symbols.specs.Held.{Held, unknown_in}
+use Rattle.symbols.specs.Held.{Held}
 use Rattle.symbols.proofs.Fields.{unknown-lexemes, kinded-lexemes}
 use Rattle.shapes.specs.declared.Shape.{Shape}
 use Rattle.shapes.specs.Shapes.{part, target_text, Spelt}
-use Rattle.declaring.specs.Declared.{symbols_in}
-use Rattle.checking.specs.Body.{Tables, good_fields, kept_line, nesting_of, formed_code, too_many}
+use Rattle.checking.specs.Body.{Tables, good_fields, kept_line, nesting_of, formed_code}
 
 -- ---- the fields around what the grammar reads
 

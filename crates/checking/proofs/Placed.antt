@@ -1,7 +1,7 @@
 -- Whether a statement is out of place, by its word's number. Assumes nothing.
 use Prim.Native.Nat.{ℕ, ◌≤◌, ◌<◌}
 use native.Mathlib.Omega.{arith}
-use mathlib.Core.Path.{◌≡◌, refl, ap, sym, ◌∙◌}
+use mathlib.Core.Path.{◌≡◌, refl}
 use mathlib.Core.Bool.{Bool, true, false}
 use Rattle.rules.specs.Statement.{statements}
 use Rattle.checking.specs.Body.{misplaced}

@@ -1,15 +1,12 @@
 -- Number 3 of a statement in a body: over codes and tables that hold the macro's names it is the test of `rules`. Assumes nothing.
-use Prim.Native.Nat.{ℕ}
 use mathlib.Core.Path.{◌≡◌, refl, ap, sym, ◌∙◌}
-use mathlib.Core.Bool.{Bool, true, false, ◌&&◌, ◌||◌, not, or_assoc, or_comm}
-use mathlib.Core.List.{List, [], ◌∷◌, ◌++◌, map}
-use lib.ListN.{length}
+use mathlib.Core.Bool.{Bool, true, false, ◌&&◌, ◌||◌, not}
+use mathlib.Core.List.{List, [], ◌∷◌}
 use Rattle.text.specs.Bytes.{Bytes, bytes, same}
-use Rattle.rules.specs.Choice.{choose, any}
-use Rattle.rules.specs.Lexemes.{lexed, sequence_start, is_long, is_sequence}
+use Rattle.rules.specs.Choice.{any}
+use Rattle.rules.specs.Lexemes.{lexed, sequence_start, is_long}
 use Rattle.rules.specs.Fields.{Fields, starts_with, is_empty}
-use Rattle.rules.specs.Statement.{Set, Statement, macro, mend, mexit, local, global, set, aif, ago, anop, actr, model, statement_of}
-use Rattle.rules.specs.Calls.{divided}
+use Rattle.rules.specs.Statement.{Set, Statement, macro, mend, mexit, local, global, set, aif, ago, anop, actr, model}
 use Rattle.rules.specs.Library.{Names, start_symbols, operand_parts, is_named}
 use Rattle.rules.specs.Faults.{has_long_symbol, has_unknown, is_declared, declares_wrongly, has_other_kind, is_bad_target, is_named_up_to_mend, target_behind, has_bad_body_name}
 use Rattle.rules.proofs.ReadLines.{InSet}

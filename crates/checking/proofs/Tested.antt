@@ -1,7 +1,7 @@
 -- Numbers 3 and 5, by the word's number as code tells it. Assumes nothing.
-use Prim.Native.Nat.{ℕ, zero, suc, ◌+◌, ◌-◌, ◌/◌, ◌≤◌, ◌<◌}
+use Prim.Native.Nat.{ℕ, suc, ◌+◌, ◌-◌, ◌/◌, ◌≤◌, ◌<◌}
 use native.Mathlib.Omega.{arith}
-use mathlib.Core.Path.{◌≡◌, refl, ap, sym, ◌∙◌}
+use mathlib.Core.Path.{◌≡◌, refl, sym, ◌∙◌}
 use mathlib.Core.Bool.{Bool, true, false, ◌&&◌, ◌||◌, not, or_assoc}
 use mathlib.Core.List.{List, [], ◌∷◌}
 use lib.Dec.{ltb}
@@ -11,7 +11,7 @@ use Rattle.text.specs.Bytes.{Bytes, same}
 use Rattle.rules.specs.Choice.{choose, any, count}
 use Rattle.rules.specs.Limits.{local_limit, global_limit}
 use Rattle.rules.specs.Lexemes.{lexed}
-use Rattle.rules.specs.Statement.{Set, set_a, set_b, set_c, Statement, model, statements}
+use Rattle.rules.specs.Statement.{Set, set_a, set_b, set_c, statements}
 use Rattle.rules.specs.Faults.{has_long_symbol, declares_wrongly, has_other_kind, is_bad_target}
 use Rattle.rules.proofs.Choices.{by, either}
 use Rattle.deck.specs.Coders.{set_code}

@@ -1,12 +1,12 @@
 -- The numbers 2 to 5 of a statement in a body, as tests over its fields, the codes of its fields and the tables of names. That these are the tests of `rules` is
 -- proofs/Bodies.antt. Assumes nothing.
-use Rattle.std.specs.Prelude.{ℕ, ◌+◌, ◌-◌, Bool, true, false, ◌&&◌, ◌||◌, not, List, [], ◌∷◌, ◌++◌, eqb, ltb, length, take}
+use Rattle.std.specs.Prelude.{ℕ, ◌+◌, ◌-◌, Bool, true, false, ◌&&◌, ◌||◌, not, List, [], ◌++◌, ltb, length, take}
 use Rattle.text.specs.Bytes.{Bytes, same}
 use Rattle.rules.specs.Choice.{choose, any, count}
 use Rattle.rules.specs.Limits.{local_limit, global_limit, nest_limit, out_of_place, bad_name, ill_formed, over_limit}
 use Rattle.rules.specs.Lexemes.{lexed, is_sequence}
 use Rattle.rules.specs.Fields.{Fields, fields_of, is_empty}
-use Rattle.rules.specs.Statement.{Set, Statement, macro, mend, mexit, local, global, set, aif, ago, anop, actr, model, statement_of, Does, Line, says}
+use Rattle.rules.specs.Statement.{Statement, macro, mend, mexit, local, global, set, aif, ago, anop, actr, model, statement_of, Does, Line, says}
 use Rattle.rules.specs.Grammar.{Kind}
 use Rattle.rules.specs.Form.{is_formed_by}
 use Rattle.rules.specs.Faults.{has_long_symbol, is_long_sequence, declares_wrongly, has_other_kind, is_bad_target, is_used_twice, is_named_or_empty, is_model_name, is_declaration}

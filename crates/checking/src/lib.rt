@@ -1,4 +1,6 @@
 // The numbers 2 to 5 of a statement in a body.
+#![tactic(auto)]
+
 ghost use Rattle.std.specs.Prelude.{◌≡◌, Bool, ◌||◌, true, [], ◌≤◌, length, get_or};
 ghost use Rattle.text.specs.Bytes.{Bytes};
 ghost use Rattle.rules.specs.Lexemes.{lexed};

@@ -1,4 +1,6 @@
 // The lexemes of one field, written for a deck: a byte each.
+#![tactic(auto)]
+
 ghost use Rattle.std.specs.Prelude.{◌≡◌, [], ◌∷◌, ◌+◌, ◌-◌, ◌≤◌, ◌<◌, length};
 ghost use Rattle.rules.specs.Lexemes.{is_mark};
 ghost use Rattle.lent.specs.Splice.{splice};
@@ -6,7 +8,7 @@ ghost use Rattle.names.specs.Names.{slot_byte};
 ghost use Rattle.coding.specs.Coded.{field_code, symbol_end, Leads};
 
 // A piece of a field: `count` times a byte, up to place `next`; and what stands before that place, the two bytes and whether a quote is open.
-#[derive(Drop)]
+#[derive(Clone, Copy)]
 pub struct Piece {
     pub byte: u8,
     pub count: usize,

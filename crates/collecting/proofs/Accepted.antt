@@ -139,16 +139,16 @@ module _ {p : Bytes} {n m : ℕ} {ts : List Bytes} {gs : List (Bytes × Set)} {b
 
 -- ---- all lines
 
-pub lines-short : {p : Bytes} {n m : ℕ} {ts : List Bytes} {gs : List (Bytes × Set)} {before ls : List Bytes} → Lines p m ts n gs before ls → AllShort ls
+pub lines-short : {p : Bytes} {m : ℕ} {ts : List Bytes} {n : ℕ} {gs : List (Bytes × Set)} {before ls : List Bytes} → Lines p m ts n gs before ls → AllShort ls
 lines-short (end more e f) = (line-short f, tt)
 lines-short (next more e f b) = (line-short f, lines-short b)
 
-pub lines-agree : {p : Bytes} {n m : ℕ} {ts : List Bytes} {gs : List (Bytes × Set)} {before ls : List Bytes} → Lines p m ts n gs before ls → length gs ≤ global_limit
+pub lines-agree : {p : Bytes} {m : ℕ} {ts : List Bytes} {n : ℕ} {gs : List (Bytes × Set)} {before ls : List Bytes} → Lines p m ts n gs before ls → length gs ≤ global_limit
     → Agrees p gs before ls
 lines-agree (end more e f) h = (line-agrees f h, tt)
 lines-agree (next more e f b) h = (line-agrees f h, lines-agree b (globals-within f h))
 
-lines-globals : {p : Bytes} {n m : ℕ} {ts : List Bytes} {gs : List (Bytes × Set)} {before ls : List Bytes} → Lines p m ts n gs before ls → length gs ≤ global_limit
+lines-globals : {p : Bytes} {m : ℕ} {ts : List Bytes} {n : ℕ} {gs : List (Bytes × Set)} {before ls : List Bytes} → Lines p m ts n gs before ls → length gs ≤ global_limit
     → length (with_globals gs (declared_in globals_on ls)) ≤ global_limit
 unfolding declared_in
 lines-globals (end {gs = gs} {l = l} more e f) h =
@@ -156,7 +156,7 @@ lines-globals (end {gs = gs} {l = l} more e f) h =
 lines-globals (next {gs = gs} {l = l} {ls = ls} more e f b) h =
     subst (λ (all : List (Bytes × Set)). length all ≤ global_limit) (sym (with_append gs (globals_on l) (declared_in globals_on ls))) (lines-globals b (globals-within f h))
 
-lines-fresh : {p : Bytes} {n m : ℕ} {ts : List Bytes} {gs : List (Bytes × Set)} {before ls : List Bytes} → Lines p m ts n gs before ls
+lines-fresh : {p : Bytes} {m : ℕ} {ts : List Bytes} {n : ℕ} {gs : List (Bytes × Set)} {before ls : List Bytes} → Lines p m ts n gs before ls
     → Fresh (firsts (declared_in globals_on before)) (firsts (declared_in globals_on ls))
 unfolding declared_in
 lines-fresh (end {before = before} {l = l} more e f) =

@@ -1,4 +1,6 @@
 // What the lines of a macro declare, put into tables: its prototype's parameters, and the SET symbols of its body.
+#![tactic(auto)]
+
 ghost use Rattle.std.specs.Prelude.{◌≡◌, false, [], ◌++◌, ◌+◌, ◌*◌, ◌≤◌, ◌<◌, length, take, drop, replicate};
 ghost use Rattle.rules.specs.Choice.{any};
 ghost use Rattle.rules.specs.Lexemes.{is_long};
@@ -13,7 +15,7 @@ ghost use Rattle.collecting.specs.Collected.{Room, Declares, Counted, Prototype,
 ghost use Rattle.collecting.specs.Bodies.{RoomFor, DeclaresBehind};
 
 // How many rows the tables have: of own names, of the names of the macro's GBL statements, and of the library's globals.
-#[derive(Drop)]
+#[derive(Clone, Copy)]
 pub struct Rows {
     pub own: usize,
     pub global: usize,

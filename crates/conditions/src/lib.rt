@@ -1,4 +1,6 @@
 // Whether a condition is well formed, over its lexeme bytes and the kinds of its slots.
+#![tactic(auto)]
+
 ghost use Rattle.std.specs.Prelude.{◌≡◌, true, List, [], ◌∷◌, ℕ, suc, eqb, length};
 ghost use Rattle.text.specs.Bytes.{Bytes, bytes};
 ghost use Rattle.text.specs.Characters.{letter_or_digit};

@@ -1,25 +1,23 @@
 -- A deck's bytes one part after another: its front, and its macros by the places where they stand. Assumes nothing.
 use Prim.Native.Nat.{ℕ, suc, ◌+◌, ◌≤◌, ◌<◌}
-use native.Mathlib.Omega.{arith}
-use mathlib.Core.Path.{◌≡◌, refl, ap, sym, ◌∙◌, subst}
+use mathlib.Core.Path.{◌≡◌, ap, sym, ◌∙◌, subst}
 use mathlib.Core.List.{List, [], ◌∷◌, ◌++◌, map, append_assoc}
-use lib.ListN.{length, drop, length-append, length-map}
+use lib.ListN.{length, length-append, length-map}
 use Rattle.text.specs.Bytes.{Bytes}
 use Rattle.rules.specs.Fields.{lines_of}
 use Rattle.rules.specs.Statement.{Set}
-use Rattle.rules.specs.Library.{Macro, outer, macros_from, seconds, globals_of}
+use Rattle.rules.specs.Library.{Macro, outer, macros_from, seconds}
 use Rattle.rules.specs.ByLines.{Reading, reading}
 use Rattle.rules.specs.Faults.{accepted, verdict}
 use Rattle.rules.proofs.Logic.{All}
-use Rattle.rules.proofs.Accepted.{readings}
 use Rattle.rules.proofs.OneKind.{globals_in}
 use Rattle.rules.proofs.Taken.{Taken, all-taken}
-use Rattle.deck.specs.Coding.{two, four, pair, via, put_all, list_of}
+use Rattle.deck.specs.Coding.{two, pair, via, put_all, list_of}
 use Rattle.deck.specs.Coders.{kind, macro, contents, version_byte, encoded}
 use Rattle.deck.specs.Slots.{deck_macro, deck_in, resolved_library}
 use Rattle.lent.specs.Splice.{splice}
 use Rattle.lent.proofs.Writes.{splice-append}
-use Rattle.labels.specs.Searches.{body_end, prototype_start}
+use Rattle.labels.specs.Searches.{prototype_start}
 use Rattle.labels.proofs.Macros.{macros-next, macros-none}
 use Rattle.decks.specs.Decks.{body_from, macro_end, macro_at, macros_at, macro_put, macros_put, front_of, sized}
 use Rattle.decks.proofs.Outside.{Outside, has-mend}

@@ -1,9 +1,9 @@
 -- A library's macros by the places where they stand, and their bytes in a deck from a place on. Assumes nothing.
-use Rattle.std.specs.Prelude.{ℕ, ◌-◌, List, [], ◌∷◌, ◌++◌, map, length, take, drop}
+use Rattle.std.specs.Prelude.{ℕ, ◌-◌, List, ◌∷◌, ◌++◌, map, length, take, drop}
 use Rattle.text.specs.Bytes.{Bytes}
 use Rattle.rules.specs.Fields.{lines_of}
 use Rattle.rules.specs.Statement.{Set}
-use Rattle.rules.specs.Library.{Macro, outer, macros_from, seconds}
+use Rattle.rules.specs.Library.{Macro, outer, macros_from}
 use Rattle.rules.specs.ByLines.{reading}
 use Rattle.deck.specs.Coding.{two, four, put_all, list_of}
 use Rattle.deck.specs.Coders.{kind, macro, version_byte}

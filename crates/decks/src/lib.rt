@@ -1,4 +1,6 @@
 // The deck of a library: how many macros it has.
+#![tactic(auto)]
+
 ghost use Rattle.std.specs.Prelude.{◌≡◌, length};
 ghost use Rattle.rules.specs.Faults.{accepted, verdict};
 ghost use Rattle.decks.specs.Decks.{macros_at};

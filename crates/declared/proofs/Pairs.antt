@@ -9,7 +9,7 @@ use Rattle.text.specs.Bytes.{Bytes}
 use Rattle.text.specs.Characters.{letter, digit, letter_or_digit}
 use Rattle.rules.specs.Lexemes.{ampersand, closing, Lex, byte, ref, lone, byte_of, field_start, marked, Mode, in_text, after_ampersand, in_symbol, symbols, lexed, Inside, outside, enters, is_bare}
 use Rattle.rules.specs.Calls.{pair_up}
-use Rattle.rules.proofs.Choices.{by, either}
+use Rattle.rules.proofs.Choices.{either}
 use Rattle.fields.specs.declared.Seen.{Seen as State}
 use Rattle.fields.specs.Seen.{before_of, inside_of, seen_after, nothing_seen}
 use Rattle.fields.proofs.Scan.{before-after, inside-after}

@@ -1,5 +1,5 @@
 -- A text's lexemes without marks, piece by piece: a byte, a pair of ampersands, a symbol, or an ampersand left over. Assumes nothing.
-use Prim.Native.Nat.{ℕ, suc, ◌+◌}
+use Prim.Native.Nat.{ℕ, suc}
 use mathlib.Core.Path.{◌≡◌, refl, ap, sym, ◌∙◌, subst}
 use mathlib.Core.Bool.{true, false, false≢true}
 use mathlib.Core.List.{[], ◌∷◌, ◌++◌, map, append_assoc, append-nil}

@@ -1,4 +1,6 @@
 // What one part of an operand is: a variable symbol, a text that may stand as a default, a keyword with its default.
+#![tactic(auto)]
+
 ghost use Rattle.std.specs.Prelude.{◌≡◌, Bool, true, ◌+◌, ◌-◌, ◌<◌, length, drop};
 ghost use Rattle.rules.specs.Choice.{every};
 ghost use Rattle.rules.specs.Lexemes.{lexed, is_plain, outside};

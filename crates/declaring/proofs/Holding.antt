@@ -1,9 +1,8 @@
 -- Tables that hold a macro's names say which names are declared and of which kind the library's globals are. Assumes nothing.
-use Prim.Native.Nat.{ℕ, zero, suc}
+use Prim.Native.Nat.{ℕ}
 use mathlib.Core.Path.{◌≡◌, refl, ap, sym, ◌∙◌}
-use mathlib.Core.Bool.{Bool, true, false}
 use mathlib.Core.List.{List, [], ◌∷◌, ◌++◌, map, append_assoc}
-use lib.ListN.{length, take, drop, get_or}
+use lib.ListN.{length, take, drop}
 use Rattle.text.specs.Bytes.{Bytes, same}
 use Rattle.rules.specs.Choice.{choose, any}
 use Rattle.rules.specs.Statement.{Set, set_a, set_b, set_c}

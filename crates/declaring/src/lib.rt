@@ -1,4 +1,6 @@
 // What an operand declares: symbols that may not be declared, how many there are, and how many are new to the library.
+#![tactic(auto)]
+
 ghost use Rattle.std.specs.Prelude.{◌≡◌, true, not, map, length, drop};
 ghost use Rattle.text.specs.Bytes.{bytes, same};
 ghost use Rattle.rules.specs.Choice.{any, count};

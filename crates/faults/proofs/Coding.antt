@@ -1,20 +1,20 @@
 -- A statement's codes as its fields' codes were written: in order, and its line's. Assumes nothing.
 use Prim.Native.Nat.{ℕ, ◌+◌, ◌-◌, ◌≤◌}
 use native.Mathlib.Omega.{arith}
-use mathlib.Core.Path.{◌≡◌, refl, ap, sym, ◌∙◌}
+use mathlib.Core.Path.{◌≡◌, ap, sym, ◌∙◌}
 use mathlib.Core.Bool.{Bool, true, false}
-use mathlib.Core.List.{List, [], ◌∷◌, ◌++◌}
+use mathlib.Core.List.{List, ◌++◌}
 use lib.Dec.{eqb}
 use lib.ListN.{length, get_or, take, drop, length-append}
 use lib.Seq.{take_at}
 use Rattle.text.specs.Bytes.{Bytes}
 use Rattle.text.specs.Words.{word_number}
 use Rattle.rules.specs.Choice.{choose}
-use Rattle.rules.specs.Fields.{Fields, fields_of, is_remark, is_empty, statement_fields}
+use Rattle.rules.specs.Fields.{Fields, fields_of, is_empty, statement_fields}
 use Rattle.rules.specs.Statement.{statements, model, statement_of}
 use Rattle.rules.specs.Library.{operation_of}
 use Rattle.rules.proofs.Choices.{passed_over}
-use Rattle.rules.proofs.ReadLines.{Holds, fields-held}
+use Rattle.rules.proofs.ReadLines.{fields-held}
 use Rattle.lent.specs.Splice.{splice}
 use Rattle.lent.proofs.Writes.{splice-whole, splice-length}
 use Rattle.coding.specs.Coded.{field_code}

@@ -1,24 +1,22 @@
 -- A statement's shape stands inside its codes, and is what its line says. Assumes nothing.
 use Prim.Native.Nat.{ℕ, ◌+◌, ◌-◌, ◌≤◌, min}
 use native.Mathlib.Omega.{arith}
-use mathlib.Core.Path.{◌≡◌, refl, ap, sym, ◌∙◌, subst}
+use mathlib.Core.Path.{◌≡◌, ap, sym, ◌∙◌}
 use mathlib.Core.Bool.{Bool, true, false, ◌&&◌, ◌||◌, not}
-use mathlib.Core.List.{List, [], ◌∷◌, ◌++◌}
-use lib.Dec.{eqb, ltb}
-use lib.ListN.{length, get_or, take, drop}
+use mathlib.Core.List.{List}
+use lib.Dec.{eqb}
+use lib.ListN.{get_or, take, drop}
 use Rattle.text.specs.Bytes.{Bytes}
-use Rattle.text.specs.Words.{word_number}
 use Rattle.rules.specs.Choice.{choose}
 use Rattle.rules.specs.Limits.{nest_limit}
 use Rattle.rules.specs.Lexemes.{is_sequence}
 use Rattle.rules.specs.Fields.{Fields, fields_of}
-use Rattle.rules.specs.Statement.{Statement, macro, mend, mexit, local, global, set, aif, ago, anop, actr, model, statement_of, statements, says, condition_end}
+use Rattle.rules.specs.Statement.{Statement, macro, mend, mexit, local, global, set, aif, ago, anop, actr, model, statement_of, statements, says}
 use Rattle.rules.specs.Faults.{is_long_sequence, is_used_twice}
-use Rattle.rules.proofs.Choices.{chosen, passed_over, either}
-use Rattle.rules.proofs.ReadLines.{InSet, Holds, fields-held}
+use Rattle.rules.proofs.Choices.{either}
+use Rattle.rules.proofs.ReadLines.{fields-held}
 use Rattle.coding.specs.Coded.{field_code}
 use Rattle.names.specs.Names.{slot_byte}
-use Rattle.grammar.specs.Tokens.{toks_at}
 use Rattle.forms.specs.Numbers.{does_number}
 use Rattle.targets.proofs.Coded.{start-coded, sequence-coded, slot-byte-high, slot-byte-ends, slot-byte-other}
 use Rattle.symbols.specs.Held.{unknown_in}

@@ -1,9 +1,8 @@
 -- Tests in turn, and what a shape keeps, as code cuts it out. Assumes nothing.
-use Prim.Native.Nat.{ℕ, ◌+◌, ◌-◌}
+use Prim.Native.Nat.{ℕ, ◌-◌}
 use native.Mathlib.Nat.{sub-zero}
-use mathlib.Core.Path.{◌≡◌, refl, ap, sym, ◌∙◌}
+use mathlib.Core.Path.{◌≡◌, ap, sym, ◌∙◌}
 use mathlib.Core.Bool.{Bool, true, false, ◌||◌}
-use mathlib.Core.List.{List, []}
 use lib.ListN.{take, drop}
 use Rattle.text.specs.Bytes.{Bytes}
 use Rattle.rules.specs.Statement.{Does}

@@ -1,4 +1,6 @@
 // The lowest number that a line of a body has.
+#![tactic(auto)]
+
 ghost use Rattle.std.specs.Prelude.{◌≡◌, Bool, true, false, ◌||◌, List, [], ◌∷◌, ◌+◌, ◌-◌, ◌≤◌, length, get_or, take};
 ghost use Rattle.text.specs.Bytes.{Bytes};
 ghost use Rattle.rules.specs.Fields.{lines_of, is_ill_written, fields_of};

@@ -1,13 +1,13 @@
 -- The places found one after another are `cuts_of`, and what they cut out are 01's fields. Assumes nothing.
-use Prim.Native.Nat.{ℕ, ◌+◌, ◌-◌}
+use Prim.Native.Nat.{ℕ, ◌-◌}
 use native.Mathlib.Nat.{zero-add, add-sub_cancel_left}
-use mathlib.Core.Path.{◌≡◌, refl, ap, sym, ◌∙◌}
+use mathlib.Core.Path.{◌≡◌, refl, ap, ◌∙◌}
 use mathlib.Core.Bool.{Bool, true, false}
 use lib.ListN.{take, drop}
 use lib.Seq.{drop-drop}
 use Rattle.text.specs.Bytes.{Bytes}
-use Rattle.rules.specs.Choice.{choose, run}
-use Rattle.rules.specs.Fields.{Fields, fields_of, is_space, is_no_space, operand_end, holds_spaces}
+use Rattle.rules.specs.Choice.{choose}
+use Rattle.rules.specs.Fields.{fields_of, holds_spaces}
 use Rattle.fields.specs.declared.Cuts.{Cuts as Places}
 use Rattle.fields.specs.Cuts.{in_run, run_end, operand_end_at, cuts_of, fields_by}
 

@@ -1,11 +1,9 @@
 -- How a byte changes the number of open parentheses, case by case. Assumes nothing.
 use Prim.Native.Nat.{ℕ, zero, suc, pred, ◌+◌, ◌-◌}
 use native.Mathlib.Omega.{arith}
-use mathlib.Core.Path.{◌≡◌, refl, ap, sym, ◌∙◌}
-use mathlib.Core.Bool.{Bool, true, false}
-use lib.Dec.{eqb}
+use mathlib.Core.Path.{◌≡◌, ◌∙◌}
+use mathlib.Core.Bool.{true, false}
 use borrow.Author.Tests.{eq-eqb, ne_eqb}
-use Rattle.rules.specs.Choice.{choose}
 use Rattle.rules.specs.Lexemes.{opening, closing}
 use Rattle.rules.proofs.Choices.{chosen, passed_over}
 use Rattle.fields.specs.declared.Seen.{Seen as State}

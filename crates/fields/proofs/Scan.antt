@@ -4,15 +4,15 @@ use native.Mathlib.Numerals.{add-one}
 use native.Mathlib.Omega.{arith}
 use mathlib.Core.Path.{◌≡◌, refl, ap, sym, ◌∙◌}
 use mathlib.Core.Bool.{Bool, true, false, ◌&&◌, ◌||◌, not, and-false, and-true}
-use mathlib.Core.List.{List, [], ◌∷◌}
+use mathlib.Core.List.{[], ◌∷◌}
 use lib.Dec.{eqb}
-use lib.ListN.{length, get_or, drop, drop_of_length-le, get_or-eq_default}
+use lib.ListN.{length, get_or, drop, drop_of_length-le}
 use lib.Seq.{drop-cons}
 use borrow.Author.Tests.{eqb-true}
 use Rattle.text.specs.Bytes.{Bytes, bytes, member}
-use Rattle.text.specs.Characters.{letter, digit, letter_or_digit}
+use Rattle.text.specs.Characters.{letter, letter_or_digit}
 use Rattle.rules.specs.Choice.{choose, passed}
-use Rattle.rules.specs.Lexemes.{space, ampersand, apostrophe, opening, closing, Lex, byte, mark, byte_of, Before, follows, is_mark, after, marked, Inside, enters}
+use Rattle.rules.specs.Lexemes.{space, ampersand, apostrophe, opening, closing, Lex, byte, mark, byte_of, follows, is_mark, after, marked, enters}
 use Rattle.rules.specs.Fields.{ends_operand}
 use Rattle.rules.proofs.Choices.{by, chosen, passed_over, and_left}
 use Rattle.fields.specs.declared.Seen.{Seen as State}

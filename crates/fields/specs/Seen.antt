@@ -1,6 +1,5 @@
 -- What a scan of an operand has seen, and what one more byte makes of it. That this is 01's reading is proofs/. Assumes nothing.
-use Rattle.std.specs.Prelude.{ℕ, suc, pred, Bool, true, false, ◌&&◌, ◌||◌, not, eqb}
-use Rattle.text.specs.Bytes.{Bytes, bytes, member}
+use Rattle.std.specs.Prelude.{ℕ, suc, pred, Bool, false, ◌&&◌, ◌||◌, not, eqb}
 use Rattle.text.specs.Characters.{letter, letter_or_digit}
 use Rattle.rules.specs.Choice.{choose}
 use Rattle.rules.specs.Lexemes.{space, ampersand, apostrophe, opening, closing, Before, Inside}

@@ -1,11 +1,13 @@
 // The fields of a line: where each begins.
+#![tactic(auto)]
+
 ghost use Rattle.std.specs.Prelude.{◌≡◌, ◌+◌, ◌-◌, ◌≤◌, ◌<◌, ◌^◌, length};
 ghost use Rattle.rules.specs.Fields.{holds_spaces};
 ghost use Rattle.fields.specs.Seen.{precedes, marks, closes_field, depth_after, quoted_after, seen_after};
 ghost use Rattle.fields.specs.Cuts.{in_run, run_end, operand_end_at, cuts_of};
 
 // What a scan has seen before a place: the two bytes before it (spaces at the field's start), whether a quote is open, and how many parentheses.
-#[derive(Drop)]
+#[derive(Clone, Copy)]
 pub struct Seen {
     pub second: u8,
     pub first: u8,
@@ -149,7 +151,7 @@ pub fn holds_spaces(operation: &[u8]) -> bool
 }
 
 // Where the parts of a line begin; the name begins at 0.
-#[derive(Drop)]
+#[derive(Clone, Copy)]
 pub struct Cuts {
     pub gap: usize,
     pub operation: usize,

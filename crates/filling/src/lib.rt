@@ -1,4 +1,6 @@
 // Declared symbols put into tables: a macro's own names, and the library's globals with their kinds.
+#![tactic(auto)]
+
 ghost use Rattle.std.specs.Prelude.{◌≡◌, false, ◌++◌, ◌+◌, ◌*◌, ◌≤◌, ◌<◌, length, take};
 ghost use Rattle.rules.specs.Choice.{any};
 ghost use Rattle.rules.specs.Lexemes.{is_long, lexed};

@@ -1,4 +1,6 @@
 // Whether the line of a macro is well formed, over the lexeme bytes of its fields and the kinds of its slots.
+#![tactic(auto)]
+
 ghost use Rattle.std.specs.Prelude.{◌≡◌, List, ℕ, ◌+◌, ◌<◌, ◌≤◌, ◌^◌, length};
 ghost use Rattle.text.specs.Bytes.{Bytes};
 ghost use Rattle.rules.specs.Choice.{passed};
@@ -77,6 +79,9 @@ pub fn is_named_by(kinds: &[u8], code: &[u8], set: u8) -> bool
     kind - 1 == set
 }
 
+// The kind of SETB.
+const SETB: u8 = 1;
+
 // Whether a field is what a SET line of this kind has as its operand.
 fn is_operand_of(kinds: &[u8], code: &[u8], set: u8, nest: usize) -> bool
     ensures { (k : Set) → set ≡ set_code k → result ≡ is_operand_of nest k (toks_at kinds.now code.now 0) }
@@ -84,7 +89,7 @@ fn is_operand_of(kinds: &[u8], code: &[u8], set: u8, nest: usize) -> bool
     if set == 0 {
         return is_arithmetic(kinds, code, nest);
     }
-    if set == 1 {
+    if set == SETB {
         return is_condition(kinds, code, nest);
     }
     is_characters(kinds, code, nest)

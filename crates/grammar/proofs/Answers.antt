@@ -1,16 +1,14 @@
 -- Answers of functions, taken further: by places in a field. Assumes nothing.
 use Prim.Native.Nat.{ℕ, ◌+◌, ◌<◌}
 use native.Mathlib.Omega.{arith}
-use mathlib.Core.Path.{◌≡◌, refl, ap, sym, ◌∙◌}
+use mathlib.Core.Path.{◌≡◌, refl, ap, sym}
 use mathlib.Core.Bool.{Bool, true, false}
 use mathlib.Core.List.{List}
-use lib.Dec.{eqb}
-use lib.ListN.{drop}
-use borrow.Author.Tests.{eq-eqb, ne_eqb}
+use borrow.Author.Tests.{ne_eqb}
 use Rattle.text.specs.Bytes.{Bytes}
 use Rattle.rules.specs.Choice.{choose}
 use Rattle.rules.specs.Lexemes.{Lex}
-use Rattle.rules.specs.Grammar.{Kind, Got, got, refused, plain, rest, then, broken, closed}
+use Rattle.rules.specs.Grammar.{Kind, Got, got, plain, rest, then, broken, closed}
 use Rattle.rules.specs.Form.{Nothing}
 use Rattle.grammar.specs.declared.Formed.{Formed}
 use Rattle.grammar.specs.declared.Formed.TheVariants.{At, Broken, Deep}

@@ -1,14 +1,13 @@
 -- Reading moves forward, so a chain of operands goes on as its loop in the code does. Assumes nothing.
-use mathlib.Core.Path.{◌≡◌, refl, sym, ap, ◌∙◌}
+use mathlib.Core.Path.{◌≡◌, refl, sym, ◌∙◌}
 use mathlib.Core.Bool.{Bool, true, false, true≢false}
 use mathlib.Core.List.{List, [], ◌∷◌}
-use mathlib.Core.Option.{Option, some}
+use mathlib.Core.Option.{some}
 use Prim.Native.Nat.{ℕ, zero, suc, ◌<◌, ◌≤◌}
 use native.Mathlib.Omega.{arith}
-use native.Mathlib.Nat.{le_refl, le_trans}
+use native.Mathlib.Nat.{le_refl}
 use lib.ListN.{length, drop}
 use Rattle.text.specs.Bytes.{Bytes}
-use Rattle.rules.specs.Choice.{while}
 use Rattle.rules.specs.Lexemes.{Lex}
 use Rattle.rules.specs.Grammar.{Kind, Got, got, refused, then, given, goes_on, turn, chain}
 use Rattle.rules.specs.Form.{Nothing}

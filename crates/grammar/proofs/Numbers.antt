@@ -1,17 +1,17 @@
 -- Decimal numbers, digit by digit. Assumes nothing.
-use Prim.Native.Nat.{ℕ, suc, ◌+◌, ◌*◌, ◌-◌, ◌≤◌, ◌<◌}
+use Prim.Native.Nat.{ℕ, ◌+◌, ◌*◌, ◌-◌, ◌≤◌, ◌<◌}
 use native.Mathlib.Omega.{arith}
 use native.Mathlib.Nat.{le_refl, lt_of_lt_of_le}
-use mathlib.Core.Path.{◌≡◌, refl, ap, sym, ◌∙◌}
-use mathlib.Core.Bool.{Bool, true, false, ◌||◌, true≢false}
+use mathlib.Core.Path.{◌≡◌, refl, ap, ◌∙◌}
+use mathlib.Core.Bool.{true, false, ◌||◌}
 use mathlib.Core.List.{List, [], ◌∷◌, map}
-use lib.Dec.{eqb, leb, ltb}
-use lib.ListN.{length, take, drop}
-use borrow.Author.Tests.{ltb-true, lt-ltb, le-ltb, leb-true}
+use lib.Dec.{leb, ltb}
+use lib.ListN.{take, drop}
+use borrow.Author.Tests.{lt-ltb, le-ltb, leb-true}
 use Rattle.text.specs.Bytes.{Bytes}
 use Rattle.text.specs.Characters.{digit, letter}
 use Rattle.rules.specs.Choice.{choose, run}
-use Rattle.rules.specs.Lexemes.{Lex, byte, mark, ref, lone, byte_of}
+use Rattle.rules.specs.Lexemes.{Lex, byte, byte_of}
 use Rattle.rules.specs.Values.{spelt}
 use Rattle.rules.specs.Grammar.{Kind, Got, got, plain, broken, decimal_number}
 use Rattle.rules.specs.Form.{Nothing, form}

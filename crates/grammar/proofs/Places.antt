@@ -13,8 +13,7 @@ use Rattle.text.specs.Bytes.{Bytes}
 use Rattle.rules.specs.Choice.{choose}
 use Rattle.rules.specs.Lexemes.{Lex, byte, mark, ref, lone, byte_of}
 use Rattle.rules.specs.Fields.{is_empty}
-use Rattle.rules.specs.Statement.{set_a, set_b, set_c}
-use Rattle.rules.specs.Grammar.{Kind, parameter, symbol, syslist, sysndx, sysect, unknown, plain, starts_mark, rest, is_attribute}
+use Rattle.rules.specs.Grammar.{Kind, plain, starts_mark, rest, is_attribute}
 use Rattle.rules.proofs.Choices.{by, either, and_right}
 use Rattle.grammar.specs.Tokens.{kind_of, lex_of, toks_at}
 use Rattle.grammar.specs.Kinds.{number_of, lex_number, kind_number}

@@ -1,19 +1,19 @@
 -- Quoted strings and string expressions. Assumes nothing.
 use mathlib.Core.Path.{◌≡◌, refl, sym, ap, ◌∙◌, subst}
-use mathlib.Core.Bool.{Bool, true, false, not, ◌&&◌, ◌||◌, true≢false}
+use mathlib.Core.Bool.{Bool, true, false, not, ◌||◌, true≢false}
 use mathlib.Core.List.{List, [], ◌∷◌}
-use mathlib.Core.Option.{Option, none, some}
-use Prim.Native.Nat.{ℕ, zero, suc, ◌+◌, ◌<◌, ◌≤◌}
+use mathlib.Core.Option.{some}
+use Prim.Native.Nat.{ℕ, suc, ◌+◌, ◌<◌, ◌≤◌}
 use native.Mathlib.Omega.{arith}
 use native.Mathlib.Nat.{le_refl, le_trans}
 use lib.Dec.{eqb, lit<}
 use lib.ListN.{length, drop}
 use borrow.Author.Tests.{eq-eqb, ne_eqb, eqb-true}
 use Rattle.text.specs.Bytes.{Bytes}
-use Rattle.rules.specs.Choice.{choose, while}
-use Rattle.rules.specs.Lexemes.{Lex, byte_of, opening, comma, period, apostrophe}
+use Rattle.rules.specs.Choice.{choose}
+use Rattle.rules.specs.Lexemes.{Lex, opening, comma, period, apostrophe}
 use Rattle.rules.specs.Fields.{is_empty}
-use Rattle.rules.specs.Grammar.{Kind, Got, got, refused, plain, rest, is_attribute, then, broken, given, closed, after_t, referred, piece, add_piece, is_doubled, add_quoted, goes_on_quoted, quoted_text, substringed, string, characters, deeper, string_within, chain}
+use Rattle.rules.specs.Grammar.{Kind, Got, got, refused, plain, rest, is_attribute, then, broken, given, closed, referred, piece, is_doubled, add_quoted, goes_on_quoted, quoted_text, substringed, string, characters, deeper, string_within}
 use Rattle.rules.specs.Form.{Nothing, form}
 use Rattle.rules.proofs.Choices.{either, chosen, passed_over, and_right}
 use Rattle.grammar.specs.declared.Formed.{Formed}

@@ -2,28 +2,27 @@
 use mathlib.Core.Path.{◌≡◌, refl, sym, ap, ◌∙◌, subst}
 use mathlib.Core.Bool.{Bool, true, false, ◌||◌, ◌&&◌, not, true≢false}
 use mathlib.Core.List.{List, [], ◌∷◌, map}
-use mathlib.Core.Option.{Option, none, some}
-use Prim.Native.Nat.{ℕ, zero, suc, ◌+◌, ◌-◌, ◌<◌, ◌≤◌}
+use mathlib.Core.Option.{some}
+use Prim.Native.Nat.{ℕ, zero, suc, ◌-◌, ◌<◌, ◌≤◌}
 use native.Mathlib.Omega.{arith}
 use native.Mathlib.Nat.{le_refl, le_trans}
 use native.Mathlib.Numerals.{sub-one}
 use lib.Dec.{eqb, ltb, lit<}
 use lib.ListN.{length, take, drop}
 use borrow.Author.Tests.{eq-eqb, ne_eqb}
-use Rattle.text.specs.Bytes.{Bytes, bytes, member}
+use Rattle.text.specs.Bytes.{bytes, member}
 use Rattle.text.specs.Characters.{digit, letter}
 use Rattle.rules.specs.Choice.{choose, run}
 use Rattle.rules.specs.Lexemes.{Lex, byte, mark, ref, lone, byte_of, comma, opening, closing}
 use Rattle.rules.specs.Fields.{is_empty}
-use Rattle.rules.specs.Statement.{Set, set_a, set_b, set_c}
+use Rattle.rules.specs.Statement.{set_a, set_b, set_c}
 use Rattle.rules.specs.Values.{spelt}
 use Rattle.rules.specs.Grammar.{Kind, parameter, symbol, syslist, sysndx, sysect, unknown, Got, got, refused, Reference, plain, rest, is_attribute, then, broken, given, closed, as_term, after_k, after_n, after_t, in_text}
 use Rattle.rules.specs.Grammar.{subscripts, reference, referred, decimal_number, term, product, sum, deeper, arithmetic}
 use Rattle.rules.specs.Form.{Nothing, form}
-use Rattle.rules.proofs.Choices.{either, chosen, passed_over, by}
-use Rattle.grammar.specs.declared.Formed.{Formed}
-use Rattle.grammar.specs.declared.Formed.TheVariants.{At, Broken, Deep}
-use Rattle.grammar.specs.Tokens.{toks_at, tells}
+use Rattle.rules.proofs.Choices.{either, chosen, passed_over}
+use Rattle.grammar.specs.declared.Formed.TheVariants.{Deep}
+use Rattle.grammar.specs.Tokens.{tells}
 use Rattle.grammar.specs.Kinds.{number_of, lex_number, kind_number, table_of}
 use Rattle.grammar.specs.Operands.{goes_by, Next, subscribed}
 use Rattle.grammar.proofs.Chains.{left, left-then, Forward, drop-less, Chained, chained, forward-chain}

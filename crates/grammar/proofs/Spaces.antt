@@ -1,11 +1,11 @@
 -- Spaces, one by one. Assumes nothing.
-use Prim.Native.Nat.{ℕ, suc, ◌+◌}
+use Prim.Native.Nat.{ℕ, suc}
 use mathlib.Core.Path.{◌≡◌, refl, ap, sym, ◌∙◌}
 use mathlib.Core.List.{List, [], ◌∷◌}
 use lib.Dec.{eqb}
 use lib.ListN.{drop}
 use borrow.Author.Tests.{eq-eqb, ne_eqb}
-use Rattle.rules.specs.Choice.{choose, run}
+use Rattle.rules.specs.Choice.{run}
 use Rattle.rules.specs.Lexemes.{Lex, byte, byte_of, space}
 use Rattle.rules.specs.Grammar.{Kind, plain, past_spaces}
 use Rattle.rules.proofs.Choices.{chosen, passed_over}

@@ -2,8 +2,8 @@
 use mathlib.Core.Path.{◌≡◌, refl, sym, ap, ◌∙◌}
 use mathlib.Core.Bool.{Bool, true, false, not, true≢false}
 use mathlib.Core.List.{List, [], ◌∷◌}
-use mathlib.Core.Option.{Option, none, some}
-use Prim.Native.Nat.{ℕ, zero, suc, ◌<◌, ◌≤◌}
+use mathlib.Core.Option.{some}
+use Prim.Native.Nat.{ℕ, suc, ◌<◌, ◌≤◌}
 use native.Mathlib.Omega.{arith}
 use native.Mathlib.Nat.{le_refl, le_trans}
 use lib.Dec.{eqb}
@@ -12,7 +12,7 @@ use Rattle.text.specs.Bytes.{Bytes}
 use Rattle.rules.specs.Choice.{choose, while}
 use Rattle.rules.specs.Lexemes.{Lex, byte, mark, ref, lone, period}
 use Rattle.rules.specs.Fields.{is_empty}
-use Rattle.rules.specs.Grammar.{Kind, Got, got, refused, plain, rest, then, broken, in_text, referred, piece, add_piece, goes_on_text, text, deeper, text_within}
+use Rattle.rules.specs.Grammar.{Kind, Got, got, refused, plain, rest, then, broken, referred, piece, add_piece, goes_on_text, text, deeper, text_within}
 use Rattle.rules.specs.Form.{Nothing, form}
 use Rattle.rules.proofs.Choices.{either, chosen, passed_over}
 use Rattle.grammar.specs.declared.Formed.{Formed}
@@ -22,7 +22,7 @@ use Rattle.grammar.specs.Kinds.{table_of}
 use Rattle.grammar.specs.Operands.{goes_by, past_period}
 use Rattle.grammar.proofs.While.{Falls, while-less, Going, going-ends, going_less, going_on}
 use Rattle.grammar.proofs.Chains.{left, left-then, Forward, drop-less, then_same}
-use Rattle.grammar.proofs.Rules.{Few, got-left, broken-left, forward-referred, forward-deeper}
+use Rattle.grammar.proofs.Rules.{got-left, broken-left, forward-referred, forward-deeper}
 
 -- ---- a scan: turns that move forward, while something is left
 

@@ -1,11 +1,11 @@
 -- A field as code sees it: one byte for each lexeme, as in a deck, and a table of the kinds of its slots. One abstraction, `toks_at`, says which lexemes a place has
 -- from it on; everything else is the rules' own grammar.
-use Rattle.std.specs.Prelude.{ℕ, ◌+◌, ◌-◌, Bool, true, false, List, [], ◌∷◌, map, eqb, ltb, length, drop, get_or}
+use Rattle.std.specs.Prelude.{ℕ, ◌-◌, List, map, eqb, ltb, length, drop, get_or}
 use Rattle.text.specs.Bytes.{Bytes}
 use Rattle.rules.specs.Choice.{choose}
 use Rattle.rules.specs.Limits.{ill_formed, over_limit}
 use Rattle.rules.specs.Lexemes.{Lex, byte, mark, ref, lone}
-use Rattle.rules.specs.Statement.{Set, set_a, set_b, set_c}
+use Rattle.rules.specs.Statement.{set_a, set_b, set_c}
 use Rattle.rules.specs.Grammar.{Kind, parameter, symbol, syslist, sysndx, sysect, unknown, Got, got, refused}
 use Rattle.rules.specs.Form.{Nothing}
 use Rattle.grammar.specs.declared.Formed.{Formed}

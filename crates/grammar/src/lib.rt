@@ -1,4 +1,6 @@
 // Whether a field is well formed, over its lexeme bytes and the kinds of its slots.
+#![tactic(auto)]
+
 ghost use Rattle.std.specs.Prelude.{◌≡◌, Bool, not, List, [], ◌∷◌, ℕ, ◌+◌, ◌<◌, eqb, length, get_or};
 ghost use Rattle.std.proofs.Math.Option.{some};
 ghost use Rattle.text.specs.Bytes.{Bytes, member};
@@ -13,7 +15,7 @@ ghost use Rattle.grammar.specs.Kinds.{number_of, kind_number, table_of};
 ghost use Rattle.grammar.specs.Operands.{Operand, Tells, subscribed, goes_by, past_period, quote_goes, quoted_run, unquoted_by, strings_by};
 
 // What reading gives: well formed up to a place; ill-formed, or too deep, from a place on.
-#[derive(Drop)]
+#[derive(Clone, Copy)]
 pub enum Formed {
     At(usize),
     Broken(usize),
@@ -71,13 +73,16 @@ pub fn kind_at(kinds: &[u8], code: &[u8], at: usize) -> u8
     if b < 227 { b - 219 } else { 255 }
 }
 
+// `)`.
+const CLOSING: u8 = 41;
+
 // The parenthesis that closes.
 pub fn closed(code: &[u8], so_far: Formed) -> Formed
     ensures { (kinds : Bytes) → tells (toks_at kinds code.now) result ≡ then (tells (toks_at kinds code.now) so_far) closed_by }
 {
     match so_far {
         Formed::At(at) => {
-            if text_at(code, at) == 41 {
+            if text_at(code, at) == CLOSING {
                 Formed::At(at + 1)
             } else {
                 Formed::Broken(at)
@@ -205,7 +210,7 @@ fn subscripts(kinds: &[u8], code: &[u8], at: usize, nest: usize, kind: u8) -> Fo
 // A reference that the table takes, as the term that starts at `here`.
 #[cycle(arithmetic_inner_product_referred_subscripts_term)]
 pub fn referred(kinds: &[u8], code: &[u8], at: usize, nest: usize, here: usize, table: u8) -> Formed
-    ensures* { λ r. ⌜ Tells (referred form (deeper form nest) (table_of table) (λ r. some tt) (toks_at kinds.now code.now here)) kinds.now code.now at r ⌝ }
+    ensures { Tells (referred form (deeper form nest) (table_of table) (λ r. some tt) (toks_at kinds.now code.now here)) kinds.now code.now at result }
 {
     let kind = kind_at(kinds, code, at);
     if kind == 255 {

@@ -1,4 +1,6 @@
 // What stands before a macro's locals and lines in a deck: its name, its name parameter, its positionals and its keywords.
+#![tactic(auto)]
+
 ghost use Rattle.std.specs.Prelude.{◌≡◌, false, ◌+◌, ◌≤◌, length};
 ghost use Rattle.rules.specs.Fields.{is_remark};
 ghost use Rattle.lent.specs.Splice.{splice};

@@ -1,4 +1,6 @@
 // A prototype's parameters: how many are positionals and keywords, and the keywords with their defaults as a deck has them.
+#![tactic(auto)]
+
 ghost use Rattle.std.specs.Prelude.{◌≡◌, true, ◌+◌, ◌≤◌, ◌<◌, length};
 ghost use Rattle.rules.specs.Lexemes.{lexed};
 ghost use Rattle.rules.specs.Calls.{divided};

@@ -13,7 +13,7 @@ use Rattle.rules.specs.Library.{Macro, outer, at_prototype, in_body, is_macro, i
 use Rattle.rules.proofs.Choices.{chosen, passed_over, by}
 use Rattle.lines.specs.Ends.{line_end}
 use Rattle.lines.proofs.Found.{no-line}
-use Rattle.labels.specs.Searches.{line_at, past_newline, up_to, beyond, behind, body_end, prototype_start}
+use Rattle.labels.specs.Searches.{line_at, past_newline, up_to, beyond, body_end, prototype_start}
 use Rattle.labels.proofs.Turns.{turn, none_named, past_end, past-lines}
 use Rattle.labels.proofs.Bodies.{lines-up-to, lines-beyond}
 

@@ -1,4 +1,6 @@
 // Searches over lines: which of them a sequence symbol names, where a macro's body ends, and where the next macro starts.
+#![tactic(auto)]
+
 ghost use Rattle.std.specs.Prelude.{◌≡◌, ◌+◌, ◌-◌, ◌≤◌, length};
 ghost use Rattle.rules.specs.Choice.{any};
 ghost use Rattle.rules.specs.Fields.{lines_of};

@@ -1,4 +1,6 @@
 // Leaf functions on lent slices: a byte that is always there, equality, and bytes written over a buffer.
+#![tactic(auto)]
+
 ghost use Rattle.std.specs.Prelude.{◌≡◌, [], ◌∷◌, ◌+◌, ◌/◌, ◌%◌, ◌^◌, ◌≤◌, ◌<◌, length, get_or, replicate};
 ghost use Rattle.text.specs.Bytes.{same};
 ghost use Rattle.lent.specs.Splice.{splice};

@@ -1,9 +1,9 @@
 -- Lines found one after another by `line_end` are the lines of 01. Assumes nothing.
-use Prim.Native.Nat.{ℕ, zero, suc, ◌+◌, ◌-◌, ◌≤◌, ◌<◌}
+use Prim.Native.Nat.{ℕ, suc, ◌+◌, ◌-◌, ◌≤◌, ◌<◌}
 use native.Mathlib.Omega.{arith}
 use mathlib.Core.Path.{◌≡◌, refl, ap, sym, ◌∙◌}
-use mathlib.Core.Bool.{Bool, true, false, not}
-use mathlib.Core.List.{List, [], ◌∷◌}
+use mathlib.Core.Bool.{true, false, not}
+use mathlib.Core.List.{[], ◌∷◌}
 use lib.Dec.{eqb}
 use lib.ListN.{length, take, drop, length-drop, drop_of_length-le}
 use lib.Seq.{drop-drop}

@@ -1,6 +1,11 @@
 // The lines of a file, one after another: where each ends.
+#![tactic(auto)]
+
 ghost use Rattle.std.specs.Prelude.{◌≡◌, ◌+◌, ◌-◌, ◌≤◌, length};
 ghost use Rattle.lines.specs.Ends.{line_end};
+
+// What ends a line.
+const NEWLINE: u8 = b'\n';
 
 // Where the line that starts at `at` ends: its newline, or the file's end.
 pub fn line_end(file: &[u8], at: usize) -> usize
@@ -9,7 +14,7 @@ pub fn line_end(file: &[u8], at: usize) -> usize
 {
     let mut i = at;
     while i < file.len() {
-        if file[i] == b'\n' {
+        if file[i] == NEWLINE {
             return i;
         }
         i += 1;

@@ -1,4 +1,6 @@
 // Macros in a deck: one macro's bytes, those of all macros of a library, and the whole deck.
+#![tactic(auto)]
+
 ghost use Rattle.std.specs.Prelude.{◌≡◌, List, map, ◌+◌, ◌-◌, ◌≤◌, ◌<◌, length, take, drop};
 ghost use Rattle.rules.specs.Statement.{Set};
 ghost use Rattle.rules.specs.Grammar.{symbol};

@@ -1,4 +1,6 @@
 // Names in lent tables of rows of eight bytes: where a name stands, what it is in a deck, and the search of a macro's name.
+#![tactic(auto)]
+
 ghost use Rattle.std.specs.Prelude.{◌≡◌, ◌+◌, ◌*◌, ◌≤◌, ◌<◌, min, length, get_or, drop};
 ghost use Rattle.text.specs.Words.{place_among};
 ghost use Rattle.deck.specs.Slots.{system_slot};

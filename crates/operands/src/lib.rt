@@ -1,4 +1,6 @@
 // The parts of an operand, divided at its commas outside quotes and parentheses: those of a prototype or a declaration.
+#![tactic(auto)]
+
 ghost use Rattle.std.specs.Prelude.{◌≡◌, true, false, map, ◌+◌, ◌-◌, length, drop};
 ghost use Rattle.text.specs.Bytes.{same};
 ghost use Rattle.rules.specs.Choice.{every, any};

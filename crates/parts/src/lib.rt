@@ -1,4 +1,6 @@
 // Where a text is cut: at a byte outside quotes and parentheses.
+#![tactic(auto)]
+
 ghost use Rattle.std.specs.Prelude.{◌≡◌, ◌+◌, ◌-◌, ◌≤◌, length, drop};
 ghost use Rattle.parts.specs.Parts.{bare_here, bare_at};
 

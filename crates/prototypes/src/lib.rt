@@ -1,4 +1,6 @@
 // The tests of a line where a prototype should stand, and of a line outside definitions: the lowest number that the line has.
+#![tactic(auto)]
+
 ghost use Rattle.std.specs.Prelude.{◌≡◌, true, false, List, ◌++◌, map, ◌+◌, ltb, length};
 ghost use Rattle.text.specs.Bytes.{Bytes, same};
 ghost use Rattle.rules.specs.Choice.{every, any};

@@ -1,9 +1,11 @@
 // The refusals of document 01 as an answer, and their numbers.
+#![tactic(auto)]
+
 ghost use Rattle.std.specs.Prelude.{◌≡◌, ◌≤◌};
 ghost use Rattle.refusals.specs.Numbers.{number_of};
 
 // 01's refusals, in the order of their numbers.
-#[derive(Drop)]
+#[derive(Clone, Copy)]
 pub enum Fault {
     BadByte,
     OutOfPlace,

@@ -2,9 +2,7 @@
 use Prim.Native.Nat.{ℕ, ◌+◌, ◌-◌, min}
 use mathlib.Core.Path.{◌≡◌, ap, sym, ◌∙◌}
 use mathlib.Core.Bool.{Bool, true, false}
-use lib.Dec.{eqb}
 use borrow.Author.Tests.{eq-eqb, ne_eqb}
-use Rattle.rules.specs.Choice.{choose}
 use Rattle.rules.proofs.Choices.{chosen, passed_over}
 use Rattle.deck.specs.Coders.{models_code, branches_if_code}
 use Rattle.shapes.specs.declared.Codes.{Codes as Ends}

@@ -1,8 +1,8 @@
 -- Three texts one behind another, and the parts that their ends cut out. Assumes nothing.
-use Prim.Native.Nat.{ℕ, ◌+◌, ◌-◌, ◌≤◌, ◌<◌, min}
+use Prim.Native.Nat.{ℕ, ◌+◌, ◌-◌, ◌≤◌, min}
 use native.Mathlib.Omega.{arith}
-use mathlib.Core.Path.{◌≡◌, refl, ap, sym, ◌∙◌}
-use mathlib.Core.List.{List, [], ◌∷◌, ◌++◌}
+use mathlib.Core.Path.{◌≡◌, ap, sym, ◌∙◌}
+use mathlib.Core.List.{[], ◌++◌}
 use lib.Dec.{leb}
 use lib.ListN.{length, take, drop, length-drop, drop_of_length-le}
 use lib.Seq.{take-append_seam, drop-append_seam, drop-append-add, take-length, drop-length, take_all, drop-drop}

@@ -6,22 +6,19 @@ use mathlib.Core.Bool.{Bool, true, false, ◌&&◌, not, and_assoc}
 use mathlib.Core.List.{List, [], ◌∷◌, ◌++◌, map}
 use lib.Dec.{eqb}
 use lib.ListN.{length, take, drop, length-append}
-use lib.Seq.{drop-drop}
-use borrow.Author.Tests.{eqb-true}
 use Rattle.text.specs.Bytes.{Bytes}
 use Rattle.rules.specs.Choice.{choose, every}
 use Rattle.rules.specs.Lexemes.{Lex, is_plain, lexed, unlexed, sequence_start, is_sequence}
 use Rattle.rules.specs.Fields.{Fields}
-use Rattle.rules.specs.Statement.{Set, Statement, macro, mend, mexit, local, global, set, aif, ago, anop, actr, model, condition_end, Line, Does, passes, ends, exits, text, models, sets, branches_if, branches, counts, is_copied, doing, model_of, says}
+use Rattle.rules.specs.Statement.{Set, Statement, macro, mend, mexit, local, global, set, aif, ago, anop, actr, model, condition_end, Does, passes, ends, exits, text, models, sets, branches_if, branches, counts, is_copied, doing, model_of, says}
 use Rattle.rules.specs.Faults.{target_behind}
 use Rattle.rules.proofs.Choices.{chosen, passed_over, by, either, into}
-use Rattle.rules.proofs.ReadLines.{InSet, Holds}
+use Rattle.rules.proofs.ReadLines.{InSet}
 use Rattle.rules.proofs.Lossless.{lexed-back}
 use Rattle.coding.specs.Coded.{code_by}
 use Rattle.grammar.specs.Tokens.{toks_at}
 use Rattle.forms.specs.Numbers.{does_number}
 use Rattle.shapes.specs.declared.Codes.{Codes as Ends}
-use Rattle.shapes.specs.declared.Shape.{Shape as Kept}
 use Rattle.shapes.specs.Shapes.{part, ends_of, is_plain_code, keeps_none, keeps_operand, branching, branching_if, modelling, shape_of, target_text, Spelt}
 use Rattle.shapes.proofs.Parts.{part_none, first_part, second-part, third-part, third-front, third-rest}
 use Rattle.shapes.proofs.Texts.{High, condition-coded, plain-codes}

@@ -1,18 +1,17 @@
 -- Codes stand for the text bytes of their lexemes: so a condition ends at the same place, and codes are plain where lexemes are. Assumes nothing.
-use Prim.Native.Nat.{ℕ, zero, suc, pred, ◌≤◌, ◌<◌}
+use Prim.Native.Nat.{ℕ, suc, pred, ◌≤◌, ◌<◌}
 use native.Mathlib.Omega.{arith}
 use mathlib.Core.Path.{◌≡◌, refl, ap, sym, ◌∙◌}
-use mathlib.Core.Bool.{Bool, true, false, ◌&&◌, not, and_assoc}
+use mathlib.Core.Bool.{Bool, ◌&&◌, not, and_assoc}
 use mathlib.Core.List.{List, [], ◌∷◌, ◌++◌, map}
 use lib.Dec.{eqb, ltb}
-use lib.ListN.{length}
 use borrow.Author.Tests.{ltb-true, lt-ltb, le-ltb}
 use Rattle.text.specs.Bytes.{Bytes}
 use Rattle.text.specs.Characters.{in_set}
 use Rattle.rules.specs.Choice.{choose, every, passed}
 use Rattle.rules.specs.Lexemes.{ampersand, Lex, byte, mark, ref, lone, byte_of, is_plain, unlexed, Inside, outside, enters}
 use Rattle.rules.specs.Statement.{pairs_first, starts_open, condition_end}
-use Rattle.rules.proofs.Choices.{chosen, passed_over, by, either, and_left, and_right}
+use Rattle.rules.proofs.Choices.{chosen, either, and_left, and_right}
 use Rattle.rules.proofs.ReadLines.{InSet, every-behind}
 use Rattle.deck.specs.Coders.{own_code}
 use Rattle.deck.proofs.Fits.{in-set-small}

@@ -3,11 +3,10 @@ use Prim.Native.Nat.{ℕ, zero, suc, ◌-◌, ◌≤◌, ◌<◌}
 use native.Mathlib.Omega.{arith}
 use mathlib.Core.Path.{◌≡◌, refl, ap, sym, ◌∙◌}
 use mathlib.Core.Bool.{Bool, true, false, ◌&&◌, not}
-use mathlib.Core.List.{List, []}
-use lib.ListN.{length, take, drop, get_or, get_or-eq_default}
+use mathlib.Core.List.{[]}
+use lib.ListN.{take, drop, get_or, get_or-eq_default}
 use Rattle.text.specs.Bytes.{Bytes}
-use Rattle.rules.specs.Choice.{choose}
-use Rattle.rules.specs.Statement.{Statement, statements, model, condition_end}
+use Rattle.rules.specs.Statement.{statements, model, condition_end}
 use Rattle.rules.proofs.Choices.{chosen, passed_over}
 use Rattle.deck.specs.Coders.{set_code}
 use Rattle.grammar.specs.Tokens.{toks_at}

@@ -1,12 +1,12 @@
 -- The codes of three fields, written one behind another. Assumes nothing.
 use Prim.Native.Nat.{ℕ, ◌+◌, ◌≤◌}
 use native.Mathlib.Omega.{arith}
-use mathlib.Core.Path.{◌≡◌, refl, ap, sym, ◌∙◌}
+use mathlib.Core.Path.{◌≡◌, ap, ◌∙◌}
 use mathlib.Core.Bool.{Bool}
-use mathlib.Core.List.{List, ◌++◌, map}
+use mathlib.Core.List.{◌++◌}
 use lib.ListN.{length, length-map}
 use Rattle.text.specs.Bytes.{Bytes}
-use Rattle.rules.specs.Lexemes.{lexed, unlexed}
+use Rattle.rules.specs.Lexemes.{lexed}
 use Rattle.rules.proofs.Lossless.{lexed-back}
 use Rattle.rules.proofs.ReadLines.{lexemes-short}
 use Rattle.lent.specs.Splice.{splice}

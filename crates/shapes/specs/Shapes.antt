@@ -1,11 +1,11 @@
 -- A statement in codes: the codes of its three fields stand one behind another, and its shape says what the line does and which of them it keeps. That a
 -- shape says what the line says is proofs/Spelt.antt. Assumes nothing.
-use Rattle.std.specs.Prelude.{ℕ, ◌+◌, ◌-◌, ◌≤◌, min, ◌≡◌, Bool, true, false, ◌&&◌, not, List, [], ◌∷◌, ◌++◌, map, eqb, ltb, length, take, drop}
+use Rattle.std.specs.Prelude.{ℕ, ◌+◌, ◌-◌, ◌≤◌, min, ◌≡◌, Bool, true, ◌&&◌, not, [], map, eqb, ltb, length, take, drop}
 use Rattle.text.specs.Bytes.{Bytes}
 use Rattle.rules.specs.Choice.{choose, every}
 use Rattle.rules.specs.Lexemes.{lexed, sequence_start, is_sequence}
 use Rattle.rules.specs.Fields.{Fields}
-use Rattle.rules.specs.Statement.{Set, Statement, macro, mend, mexit, local, global, set, aif, ago, anop, actr, model, condition_end, Line}
+use Rattle.rules.specs.Statement.{Statement, macro, mend, mexit, local, global, set, aif, ago, anop, actr, model, condition_end, Line}
 use Rattle.rules.specs.Faults.{target_behind}
 use Rattle.deck.specs.Coders.{passes_code, ends_code, exits_code, text_code, models_code, branches_if_code, branches_code, counts_code, sets_code, set_code, own_code}
 use Rattle.coding.specs.Coded.{code_by}

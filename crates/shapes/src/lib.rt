@@ -1,4 +1,6 @@
 // A statement in codes: what the line does, and which codes it keeps.
+#![tactic(auto)]
+
 ghost use Rattle.std.specs.Prelude.{◌≡◌, Bool, true, false, ◌++◌, ◌+◌, ◌-◌, ◌≤◌, min, eqb, length, get_or};
 ghost use Rattle.rules.specs.Choice.{choose};
 ghost use Rattle.rules.specs.Statement.{statements, model};
@@ -8,7 +10,7 @@ ghost use Rattle.coding.specs.Coded.{field_code};
 ghost use Rattle.shapes.specs.Shapes.{ends_of, is_plain_code, keeps_none, keeps_operand, branching, branching_if, modelling, shape_of};
 
 // Where the codes of a statement's name, operation and operand end, one behind another.
-#[derive(Drop)]
+#[derive(Clone, Copy)]
 pub struct Codes {
     pub name: usize,
     pub operation: usize,
@@ -17,7 +19,7 @@ pub struct Codes {
 
 // What a line does, and which codes it keeps: the name's up to `name`, the operation's from `operation` to `gap`, the operand's from `operand` to `rest`, and a
 // branch target's from there to `end`.
-#[derive(Drop)]
+#[derive(Clone, Copy)]
 pub struct Shape {
     pub does: u8,
     pub name: usize,

@@ -1,4 +1,6 @@
 // A line's name and operation, and what names and sequence symbols are.
+#![tactic(auto)]
+
 ghost use Rattle.std.specs.Prelude.{◌≡◌, ◌+◌, ◌-◌, ◌≤◌, length};
 ghost use Rattle.rules.specs.Lexemes.{is_name, sequence_start, is_sequence};
 ghost use Rattle.rules.specs.Fields.{is_remark, statement_fields};

@@ -1,4 +1,6 @@
 // The variable symbols of a field: whether one of them is not known.
+#![tactic(auto)]
+
 ghost use Rattle.std.specs.Prelude.{◌≡◌};
 ghost use Rattle.symbols.specs.Held.{unknown_in};
 

@@ -1,4 +1,6 @@
 // Filling tables of names: each further name takes the next row of eight bytes.
+#![tactic(auto)]
+
 ghost use Rattle.std.specs.Prelude.{◌≡◌, ◌∷◌, ◌+◌, ◌*◌, ◌≤◌, length};
 ghost use Rattle.lent.specs.Splice.{splice};
 ghost use Rattle.names.specs.Names.{padded};

@@ -1,12 +1,11 @@
 -- What the check of a library says for the translation behind it. Assumes nothing.
 use Prim.Native.Nat.{ℕ, ◌≤◌}
 use native.Mathlib.Omega.{arith}
-use mathlib.Core.Path.{◌≡◌, refl, ap, sym, ◌∙◌, subst}
-use mathlib.Core.List.{List, map}
+use mathlib.Core.Path.{◌≡◌, ap, sym, ◌∙◌, subst}
+use mathlib.Core.List.{List}
 use Rattle.text.specs.Bytes.{Bytes}
-use Rattle.rules.specs.Fields.{lines_of}
 use Rattle.rules.specs.Statement.{Set}
-use Rattle.rules.specs.Faults.{Verdict, accepted, faulty, verdict}
+use Rattle.rules.specs.Faults.{accepted, faulty, verdict}
 use Rattle.refusals.specs.declared.Fault.{Fault}
 use Rattle.refusals.specs.Numbers.{number_of}
 use Rattle.walking.specs.Verdicts.{told, globals_at, Shared, Lists}
@@ -14,8 +13,7 @@ use Rattle.walking.specs.declared.Checked.{Checked}
 use Rattle.walking.specs.declared.Checked.TheVariants.{Accepted, Faulty}
 use Rattle.walking.proofs.Globals.{globals-of-library}
 use Rattle.macros.specs.Macros.{globals_of_library, Holds}
-use Rattle.translating.specs.declared.Translated.{Translated}
-use Rattle.translating.specs.declared.Translated.TheVariants.{Deck, Refused}
+use Rattle.translating.specs.declared.Translated.TheVariants.{Refused}
 use Rattle.translating.specs.Answers.{Right}
 use Rattle.translating.proofs.Numbers.{verdict-number}
 use Rattle.translating.proofs.Outcomes.{refused-right}

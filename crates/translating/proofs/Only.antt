@@ -1,9 +1,8 @@
 -- Two outcomes that meet the contract of translation are equal. Assumes nothing.
-use Prim.Native.Nat.{ℕ, suc, ◌≤◌, ◌<◌}
+use Prim.Native.Nat.{ℕ, ◌≤◌}
 use native.Mathlib.Omega.{arith}
-use mathlib.Core.Path.{◌≡◌, refl, ap, sym, ◌∙◌}
-use mathlib.Core.List.{List, [], ◌∷◌}
-use lib.Dec.{lit≤}
+use mathlib.Core.Path.{◌≡◌, ap, sym, ◌∙◌}
+use mathlib.Core.List.{[], ◌∷◌}
 use Rattle.text.specs.Bytes.{Bytes}
 use Rattle.refusals.specs.declared.Fault.{Fault}
 use Rattle.refusals.specs.declared.Fault.TheVariants.{BadByte, OutOfPlace, BadName, IllFormed, OverLimit, BadCall, TooLong, BadValue, CounterSpent, LevelSix, CallsSpent, BadDeck, ShortWorkspace, NoRoom, LanguageWord}

@@ -1,10 +1,9 @@
 -- What translation answers, by the verdict on the library and the room for its deck. Assumes nothing.
-use Prim.Native.Nat.{ℕ, ◌+◌, ◌-◌, ◌≤◌, ◌<◌}
+use Prim.Native.Nat.{ℕ, ◌-◌, ◌≤◌, ◌<◌}
 use native.Mathlib.Nat.{sub-zero}
 use native.Mathlib.Omega.{arith}
 use mathlib.Core.Path.{◌≡◌, refl, ap, sym, ◌∙◌}
-use mathlib.Core.Bool.{Bool, true, false}
-use mathlib.Core.List.{List, [], ◌∷◌, ◌++◌}
+use mathlib.Core.List.{[], ◌∷◌}
 use lib.Dec.{leb}
 use lib.ListN.{length, take, drop}
 use lib.Seq.{take_at}
@@ -23,7 +22,7 @@ use Rattle.refusals.specs.declared.Fault.TheVariants.{NoRoom}
 use Rattle.refusals.specs.Numbers.{number_of}
 use Rattle.translating.specs.declared.Translated.{Translated}
 use Rattle.translating.specs.declared.Translated.TheVariants.{Deck, Refused}
-use Rattle.translating.specs.Answers.{Listed, listing, listed, listed_by, Right}
+use Rattle.translating.specs.Answers.{listing, listed, listed_by, Right}
 
 module _ (library before : Bytes) where
   right_by : (o : Outcome) (r : Translated) (after : Bytes) → translated library (length before) ≡ o → listed r ≡ listed_by o → after ≡ buffer_after o before → Right library before r after

@@ -1,4 +1,6 @@
 // Translation: a library into a deck.
+#![tactic(auto)]
+
 ghost use Rattle.std.specs.Prelude.{◌≡◌};
 ghost use Rattle.rules.specs.Faults.{accepted, verdict};
 ghost use Rattle.walking.specs.Verdicts.{globals_at, Shared};
@@ -6,7 +8,7 @@ ghost use Rattle.macros.specs.Macros.{Lent};
 ghost use Rattle.translating.specs.Answers.{Right};
 
 // What a translation answers: the deck's length, or a refusal with its line.
-#[derive(Drop)]
+#[derive(Clone, Copy)]
 pub enum Translated {
     Deck { length: usize },
     Refused { fault: refusals::Fault, line: usize },
@@ -28,7 +30,8 @@ fn write(
 {
     let mut out = [0u8; 65536];
     let length = macros::put_deck(library, globals, own, global, shared, kinds, code, &mut out);
-    if deck.len() < length {
+    let too_small = deck.len() < length;
+    if too_small {
         return Translated::Refused {
             fault: refusals::Fault::NoRoom,
             line: 0,

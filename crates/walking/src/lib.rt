@@ -1,4 +1,6 @@
 // The walk over a library's lines that finds the lowest faulty one, and fills the tables on its way.
+#![tactic(auto)]
+
 ghost use Rattle.std.specs.Prelude.{◌≡◌, ◌+◌, ◌-◌, ◌≤◌, length, take, drop};
 ghost use Rattle.rules.specs.Fields.{lines_of};
 ghost use Rattle.rules.specs.Faults.{Around, ends_declarations, verdict};
@@ -9,7 +11,7 @@ ghost use Rattle.walking.specs.Walks.{Follows, Sizes, Walked, AtLine, Ready};
 // Where a walk stands: at the line that starts at `at`, with so many lines, MACRO lines and macros' names before it; outside definitions (place 0), at a
 // prototype (1) or in a body (2). In a body: where the body starts, how many parameters the macro has, and whether its declarations are over. Then how many
 // rows the tables have: of own names, of the names of the macro's GBL statements, and of the library's globals.
-#[derive(Drop)]
+#[derive(Clone, Copy)]
 pub struct Walk {
     pub at: usize,
     pub lines: usize,
@@ -25,7 +27,7 @@ pub struct Walk {
 }
 
 // What the check of a library answers.
-#[derive(Drop)]
+#[derive(Clone, Copy)]
 pub enum Checked {
     Accepted { macros: usize, globals: usize },
     Faulty { number: u8, line: usize },
@@ -189,6 +191,9 @@ fn own_fault(
     )
 }
 
+// How many lines a library may have.
+const LINES: usize = 512;
+
 // The lowest number that the line up to `end` has, the limit of lines being one of the tests; 0 where it has none.
 fn fault(
     library: &[u8],
@@ -208,7 +213,7 @@ fn fault(
     if number != 0 {
         return number;
     }
-    if 512 <= walk.lines {
+    if LINES <= walk.lines {
         return 5;
     }
     0

@@ -1,4 +1,6 @@
 // Which of the sixteen language words of document 01, "Definitions", an operation is.
+#![tactic(auto)]
+
 ghost use Rattle.std.specs.Prelude.{◌≡◌};
 ghost use Rattle.text.specs.Bytes.{same};
 ghost use Rattle.text.specs.Words.{word_number};

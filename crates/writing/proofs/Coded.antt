@@ -2,11 +2,10 @@
 use Prim.Native.Nat.{ℕ, suc, ◌+◌, ◌-◌}
 use native.Mathlib.Omega.{arith}
 use mathlib.Core.Path.{◌≡◌, refl, ap, sym, ◌∙◌}
-use mathlib.Core.Bool.{Bool, true, false}
+use mathlib.Core.Bool.{Bool}
 use mathlib.Core.List.{List, [], ◌∷◌, ◌++◌, map}
 use lib.ListN.{length, set, length-append, length-map}
 use Rattle.text.specs.Bytes.{Bytes}
-use Rattle.rules.specs.Choice.{choose}
 use Rattle.rules.specs.Lexemes.{Lex}
 use Rattle.rules.specs.Statement.{Set, set_a, set_b, set_c}
 use Rattle.rules.specs.Grammar.{symbol}

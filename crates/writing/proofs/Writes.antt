@@ -2,14 +2,14 @@
 use Prim.Native.Nat.{ℕ, suc, ◌+◌, ◌-◌, ◌≤◌, ◌<◌}
 use native.Mathlib.Numerals.{add-one}
 use native.Mathlib.Omega.{arith}
-use mathlib.Core.Path.{◌≡◌, refl, ap, sym, ◌∙◌}
-use mathlib.Core.List.{[], ◌∷◌, ◌++◌, map}
+use mathlib.Core.Path.{◌≡◌, refl, ap, ◌∙◌}
+use mathlib.Core.List.{◌++◌}
 use lib.ListN.{length, get_or, drop, set, length-append, length-set, length-map, drop_of_length-le}
 use lib.Seq.{drop-cons}
 use Rattle.text.specs.Bytes.{Bytes}
 use Rattle.deck.specs.Coding.{two}
 use Rattle.lent.specs.Splice.{splice}
-use Rattle.lent.proofs.Writes.{splice-append, splice-cons, splice-length}
+use Rattle.lent.proofs.Writes.{splice-append, splice-length}
 use Rattle.writing.specs.Bytes.{counted, lessened}
 
 -- one write and another where it ends

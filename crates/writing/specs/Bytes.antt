@@ -1,6 +1,6 @@
 -- A body line's bytes in a deck, by what the line does and the codes that it keeps. That they are the deck's coding of the line is proofs/Lines.antt.
 -- Assumes nothing.
-use Rattle.std.specs.Prelude.{ℕ, ◌+◌, ◌-◌, ◌≤◌, ◌<◌, Bool, List, [], ◌∷◌, ◌++◌, map, eqb, ltb, length, take, drop}
+use Rattle.std.specs.Prelude.{ℕ, ◌+◌, ◌-◌, ◌≤◌, ◌<◌, Bool, [], ◌∷◌, ◌++◌, map, eqb, ltb, length, take, drop}
 use Rattle.text.specs.Bytes.{Bytes}
 use Rattle.rules.specs.Choice.{choose}
 use Rattle.rules.specs.Statement.{Does, passes, ends, exits, text, models, sets, branches_if, branches, counts}

@@ -1,4 +1,6 @@
 // A body line's bytes in a deck, and what stands before a macro's lines: its name, its flag, counts and kinds.
+#![tactic(auto)]
+
 ghost use Rattle.std.specs.Prelude.{◌≡◌, Bool, List, ◌++◌, map, ◌+◌, ◌-◌, ◌≤◌, ◌<◌, length, take};
 ghost use Rattle.rules.specs.Statement.{Set};
 ghost use Rattle.rules.specs.Grammar.{symbol};

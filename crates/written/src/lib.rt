@@ -1,4 +1,6 @@
 // How a line is written: whether its bytes are in the set, and its name and operand, whatever its operation is.
+#![tactic(auto)]
+
 ghost use Rattle.std.specs.Prelude.{◌≡◌};
 ghost use Rattle.text.specs.Characters.{in_set};
 ghost use Rattle.rules.specs.Choice.{every};

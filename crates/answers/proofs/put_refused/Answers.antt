@@ -1,0 +1,52 @@
+-- `answers::put_refused` meets its contract: its parts stand one behind another. Assumes nothing.
+use borrow.Author.Rules.{rules}
+use Prim.Native.Nat.{◌≤◌}
+use native.Mathlib.Omega.{arith}
+use mathlib.Core.Path.{◌≡◌, ◌∙◌}
+use lib.ListN.{length, length-set}
+use Rattle.answers.proofs.Writing.{as_long, spaced-short, refused-written}
+use Rattle.answers.proofs.put_refused.Goals as goal
+
+pub put_spaced-end-requires : goal.put_spaced-end-requires
+put_spaced-end-requires c =
+    let out = c.args.out.now in
+    let p = c.put_spaced-behind.ensures in
+    let long : length c.put_spaced-behind.new.out ≡ length out = as_long _ _ _ p.out_after ∙ as_long _ _ _ c.copy.ensures in
+    let short = spaced-short c.args.number in
+    let room : 64 ≤ length out = search rules in
+    let behind = p.value in
+    omega (arith, long, short, room, behind)
+
+pub bounds-out-end : goal.bounds-out-end
+bounds-out-end c =
+    let out = c.args.out.now in
+    let o = c.copy.ensures in
+    let p = c.put_spaced-behind.ensures in
+    let q = c.put_spaced-end.ensures in
+    let long : length c.put_spaced-end.new.out ≡ length out = as_long _ _ _ q.out_after ∙ (as_long _ _ _ p.out_after ∙ as_long _ _ _ o) in
+    let short = spaced-short c.args.number in
+    let short2 = spaced-short c.args.line in
+    let room : 64 ≤ length out = search rules in
+    let behind = p.value in
+    let end = q.value in
+    omega (arith, long, short, short2, room, behind, end)
+
+pub overflow_add-result : goal.overflow_add-result
+overflow_add-result c =
+    let out = c.args.out.now in
+    let o = c.copy.ensures in
+    let p = c.put_spaced-behind.ensures in
+    let q = c.put_spaced-end.ensures in
+    let long : length c.put_spaced-end.new.out ≡ length out = as_long _ _ _ q.out_after ∙ (as_long _ _ _ p.out_after ∙ as_long _ _ _ o) in
+    let short = spaced-short c.args.number in
+    let short2 = spaced-short c.args.line in
+    let room : 64 ≤ length out = search rules in
+    let behind = p.value in
+    let end = q.value in
+    omega (arith, short, short2, behind, end)
+
+pub shape_of-out : goal.shape_of-out
+shape_of-out c = length-set c.put_spaced-end.new.out c.put_spaced-end.result 10 ∙ (as_long _ _ _ c.put_spaced-end.ensures.out_after ∙ (as_long _ _ _ c.put_spaced-behind.ensures.out_after ∙ as_long _ _ _ c.copy.ensures))
+
+pub returns : goal.returns
+returns c = let whole = refused-written _ _ _ _ _ c.copy.ensures c.put_spaced-behind.ensures.out_after c.put_spaced-behind.ensures.value c.put_spaced-end.ensures.out_after c.put_spaced-end.ensures.value in record { out_after = whole.0; value = whole.1 }

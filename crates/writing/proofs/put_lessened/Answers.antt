@@ -1,0 +1,21 @@
+-- `writing::put_lessened` meets its contract: what finishing from here writes is what is to be written. Assumes nothing.
+use borrow.Author.Rules.{rules}
+use native.Mathlib.Nat.{add-zero}
+use mathlib.Core.Path.{refl, sym, ◌∙◌}
+use lib.ListN.{length-set}
+use Rattle.writing.proofs.Writes.{lessened-on, lessened-end}
+use Rattle.writing.proofs.put_lessened.Goals as goal
+
+pub loop-i-init : goal.loop-i-init
+loop-i-init c =
+    (search rules, refl, rw add-zero)
+
+pub loop-i-preserved : goal.loop-i-preserved
+loop-i-preserved c =
+    let a = c.args in
+    (search rules, simp length-set c.loop-i.invariant.1, lessened-on c.loop-i.out a.s.now a.at c.loop-i.i _ c.less.ensures (search rules) ∙ c.loop-i.invariant.2)
+
+pub returns : goal.returns
+returns c =
+    let a = c.args in
+    sym (lessened-end c.loop-i.out a.s.now a.at c.loop-i.i (search rules)) ∙ c.loop-i.invariant.2
