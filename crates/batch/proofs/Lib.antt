@@ -3,3 +3,4 @@ pub mod Cases
 pub mod Inside
 pub mod Keeping
 pub mod Stays
+pub mod Shifted

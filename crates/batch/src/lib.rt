@@ -1,17 +1,19 @@
 // The batch format of docs/BATCH.md: the cases of an input.
+#![tactic(auto)]
+
 ghost use Rattle.std.specs.Prelude.{◌≡◌, ◌+◌, ◌-◌, ◌≤◌, ◌<◌, length, take, drop};
 ghost use Rattle.lent.specs.Splice.{splice};
 ghost use Rattle.batch.specs.Format.{is_printable, id_end, number_at, pair_at, laid_out, headed, case_at};
 
 // A number, and the place behind the byte that ends it; or no number.
-#[derive(Drop)]
+#[derive(Clone, Copy)]
 enum Number {
     Is { value: usize, next: usize },
     Not,
 }
 
 // Two numbers, and the place behind them; or not both.
-#[derive(Drop)]
+#[derive(Clone, Copy)]
 enum Pair {
     Both {
         first: usize,
@@ -24,7 +26,7 @@ enum Pair {
 // What stands at a place of a batch: a case, the batch's end, or something that is no case.
 // A case's id stands from `id` to `blank`, its library from `library` to `program`, its program from there to `stop`;
 // the next case stands at `next`.
-#[derive(Drop)]
+#[derive(Clone, Copy)]
 pub enum Case {
     Found {
         id: usize,

@@ -1,80 +1,145 @@
 // Reads a batch from standard input, translates the library of each case, and writes the answers: docs/BATCH.md.
-ghost use Rattle.std.specs.Prelude.{◌≡◌, ◌≤◌, length};
+#![tactic(auto)]
 
-use libc::{STDERR_FILENO, STDIN_FILENO, STDOUT_FILENO};
+ghost use Rattle.std.specs.Prelude.{◌≡◌, ℕ, ◌-◌, ◌^◌, ◌<◌, ◌≤◌, take, drop, length, IfSome, IfOk, OnOk};
+ghost use Rattle.std.specs.Io.KnownBytes.{Keeps, Appends, Consumes, IsAtEnd};
+ghost use Rattle.text.specs.Bytes.{Bytes};
+ghost use Rattle.answers.specs.Answers.{refused_answer};
+ghost use Rattle.translate_batch.specs.Answering.{deck_told, answer_to, input_left, Stands, ReadsOn, Steps, Answers};
+
+use std::io;
+use std::io::{Read, Write};
 
 // What is left to do: the next case stands at `at` of the window, whose first `used` bytes are input; or nothing.
-#[derive(Drop)]
+#[derive(Clone, Copy)]
 enum Left {
     Some { at: usize, used: usize },
     Nothing,
 }
 
 // Writes that the library is refused.
-fn write_refused(number: u8, line: usize) {
+fn write_refused<W: Write>(output: &mut W, number: u8, line: usize) -> io::Result<()>
+    ensures { OnOk result (Appends (W.contents output.old) (W.contents output.new) (refused_answer number line)) }
+{
     let mut text = [0u8; 64];
     let count = answers::put_refused(&mut text, number, line);
-    io::write_all(STDOUT_FILENO, &text[..count]);
+    output.write_all(&text[..count])
 }
 
 // Writes a deck.
-fn write_deck(deck: &[u8]) {
+fn write_deck<W: Write>(output: &mut W, deck: &[u8]) -> io::Result<()>
+    ensures { OnOk result (Appends (W.contents output.old) (W.contents output.new) (deck_told deck.now)) }
+{
     let mut text = [0u8; 64];
     let count = answers::put_deck(&mut text, deck.len());
-    io::write_all(STDOUT_FILENO, &text[..count]);
-    io::write_all(STDOUT_FILENO, deck);
-    io::write_all(STDOUT_FILENO, b"\n");
+    output.write_all(&text[..count])?;
+    output.write_all(deck)?;
+    output.write_all(b"\n")
 }
 
 // Writes the answer to a case: its id, and what the translation of its library answers.
-fn respond(id: &[u8], library: &[u8], deck: &mut [u8]) {
-    io::write_all(STDOUT_FILENO, b"ANSWER ");
-    io::write_all(STDOUT_FILENO, id);
+fn respond<W: Write>(output: &mut W, id: &[u8], library: &[u8], deck: &mut [u8]) -> io::Result<()>
+    ensures { OnOk result (Appends (W.contents output.old) (W.contents output.new)
+        (answer_to id.now library.now (length deck.old))) }
+{
+    output.write_all(b"ANSWER ")?;
+    output.write_all(id)?;
     match translating::translate(library, deck) {
         translating::Translated::Deck { length } => {
             if length <= deck.len() {
-                write_deck(&deck[..length]);
+                write_deck(output, &deck[..length])?;
             }
+            Ok(())
         }
         translating::Translated::Refused { fault, line } => {
-            write_refused(refusals::number(fault), line);
+            write_refused(output, refusals::number(fault), line)
         }
     }
+}
+
+// Reads until the buffer is full, the input ends or a read fails; answers how many bytes it read to the buffer's front. A read
+// that fails is an error only if it is the first: what was read before is answered, and the next call finds the failure again.
+fn read_full<R: Read>(input: &mut R, buffer: &mut [u8]) -> io::Result<usize>
+    ensures bound { IfOk result (λ n. n ≤ length buffer.new) }
+    ensures bytes { IfOk result (λ n. Consumes (R.remaining input.old) (R.remaining input.new) (take n buffer.new)) }
+    ensures end { IfOk result (λ n. n ≡ 0 → 0 < length buffer.new → IsAtEnd (R.remaining input.new)) }
+{
+    let mut done = 0;
+    while done < buffer.len() {
+        match input.read(&mut buffer[done..]) {
+            Ok(0) => break,
+            Ok(count) => done += count,
+            Err(error) => {
+                if done == 0 {
+                    return Err(error);
+                }
+                break;
+            }
+        }
+    }
+    Ok(done)
 }
 
 // Moves the input from `at` to `used` to the window's front and reads more behind it; answers how many bytes are input then.
-fn refill(window: &mut [u8], at: usize, used: usize) -> usize
+fn refill<R: Read>(input: &mut R, window: &mut [u8], at: usize, used: usize) -> io::Result<usize>
     requires { (at ≤ used) × (used ≤ length window.old) }
+    ensures bounds { IfOk result (λ n. (used - at ≤ n) × (n ≤ length window.new)) }
+    ensures front { IfOk result (λ n. take (used - at) window.new ≡ drop at (take used window.old)) }
+    ensures left { IfOk result (λ n. Keeps (input_left window.old at used (R.remaining input.old))
+        (input_left window.new 0 n (R.remaining input.new))) }
+    ensures end { IfOk result (λ n. n ≡ used - at → n < length window.new → IsAtEnd (R.remaining input.new)) }
 {
     batch::keep(window, at, used);
     let kept = used - at;
-    kept + io::read_full(STDIN_FILENO, &mut window[kept..])
+    let count = read_full(input, &mut window[kept..])?;
+    Ok(kept + count)
 }
 
 // Goes on with more input, if there is any.
-fn more(window: &mut [u8], at: usize, used: usize, ended: bool) -> Left
+fn more<R: Read, E: Write>(
+    input: &mut R,
+    errors: &mut E,
+    window: &mut [u8],
+    at: usize,
+    used: usize,
+    ended: bool,
+) -> io::Result<Left>
     requires { (at ≤ used) × (used ≤ length window.old) }
+    ensures { (whole : Bytes) (place : ℕ) → Stands whole place window.old at used (R.remaining input.old)
+        → IfOk result (ReadsOn whole place (drop at (take used window.old)) ended (R.remaining input.old) (E.contents errors.old)
+        window.new (R.remaining input.new) (E.contents errors.new)) }
 {
-    let now = refill(window, at, used);
+    let now = refill(input, window, at, used)?;
     if used - at < now {
-        return Left::Some { at: 0, used: now };
+        return Ok(Left::Some { at: 0, used: now });
     }
     if !ended {
-        io::write_all(
-            STDERR_FILENO,
+        errors.write_all(
             b"translate_batch: a case starts: CASE id library program output workspace\n",
-        );
+        )?;
     }
-    Left::Nothing
+    Ok(Left::Nothing)
 }
 
 // Answers the case at `at`, or goes on with more input.
-fn step(window: &mut [u8], deck: &mut [u8], at: usize, used: usize) -> Left {
+fn step<R: Read, W: Write, E: Write>(
+    input: &mut R,
+    output: &mut W,
+    errors: &mut E,
+    window: &mut [u8],
+    deck: &mut [u8],
+    at: usize,
+    used: usize,
+) -> io::Result<Left>
+    ensures { (whole : Bytes) (place : ℕ) → Stands whole place window.old at used (R.remaining input.old)
+        → IfOk result (Steps whole place (length deck.old) (R.remaining input.old) (W.contents output.old) (E.contents errors.old)
+        window.new (R.remaining input.new) (W.contents output.new) (E.contents errors.new)) }
+{
     if window.len() < used {
-        return Left::Nothing;
+        return Ok(Left::Nothing);
     }
     if used < at {
-        return Left::Nothing;
+        return Ok(Left::Nothing);
     }
     match batch::case_at(&window[..used], at) {
         batch::Case::Found {
@@ -82,31 +147,36 @@ fn step(window: &mut [u8], deck: &mut [u8], at: usize, used: usize) -> Left {
             blank,
             library,
             program,
-            stop,
+            stop: _,
             next,
-            output,
-            workspace,
+            output: _,
+            workspace: _,
         } => {
-            respond(&window[id..blank], &window[library..program], deck);
-            Left::Some {
-                at: next,
-                used: used,
-            }
+            respond(output, &window[id..blank], &window[library..program], deck)?;
+            Ok(Left::Some { at: next, used })
         }
-        batch::Case::End => more(window, at, used, true),
-        batch::Case::Broken => more(window, at, used, false),
+        batch::Case::End => more(input, errors, window, at, used, true),
+        batch::Case::Broken => more(input, errors, window, at, used, false),
     }
 }
 
-// Answers every case of the input. A proved loop has to end, and nothing says that the input does: so the turns are counted
-// down, from a number that no run uses up.
-fn run(window: &mut [u8], deck: &mut [u8]) {
+// Answers every case of the input. A proved loop has to end, and nothing says that the input does: so the turns are counted,
+// up to a number that no run uses up.
+fn run<R: Read, W: Write, E: Write>(
+    input: &mut R,
+    output: &mut W,
+    errors: &mut E,
+    window: &mut [u8],
+    deck: &mut [u8],
+) -> io::Result<()>
+    ensures { OnOk result (IfSome (R.remaining input.old) (λ whole. length whole < 2 ^ 63
+        → Answers whole (length window.old) (length deck.old)
+        (W.contents output.old) (W.contents output.new) (E.contents errors.old) (E.contents errors.new))) }
+{
     let mut at = 0;
     let mut used = 0;
-    let mut turns = u64::MAX;
-    while turns > 0 {
-        turns -= 1;
-        match step(window, deck, at, used) {
+    for _ in 0..u64::MAX {
+        match step(input, output, errors, window, deck, at, used)? {
             Left::Some {
                 at: next,
                 used: now,
@@ -115,10 +185,11 @@ fn run(window: &mut [u8], deck: &mut [u8]) {
                 used = now;
             }
             Left::Nothing => {
-                return;
+                return Ok(());
             }
         }
     }
+    Ok(())
 }
 
 // 1,048,576 zeros: a case has to fit.
@@ -128,8 +199,14 @@ fn window_of() -> [u8; 1048576]
     [0; 1048576]
 }
 
-fn main() {
+fn main(rt: HostRuntime) -> io::Result<()> {
     let mut window = window_of();
-    let mut deck = io::large_buffer();
-    run(&mut window, &mut deck);
+    let mut deck = [0u8; 65536];
+    run(
+        &mut rt.stdin(),
+        &mut rt.stdout(),
+        &mut rt.stderr(),
+        &mut window,
+        &mut deck,
+    )
 }

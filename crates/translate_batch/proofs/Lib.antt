@@ -1,0 +1,7 @@
+mod Places
+mod Told
+mod Telling
+mod Reading
+mod Windows
+mod Steps
+mod Runs
