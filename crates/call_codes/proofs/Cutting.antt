@@ -169,6 +169,7 @@ module _ (s : Bytes) (at end : ℕ) (h : at ≤ length s) (e : end ≡ at + cut_
 
   -- one part less
   pub fewer : (left : ℕ) → 0 < left → drop left (parts_from s at) ≡ drop (left - 1) others
+  fewer zero l = elim l [ ]
   fewer (suc left) l =
       let n : left ≡ suc left - 1 = omega arith in
       ap (drop (suc left)) rest-on ∙ ap (λ (m : ℕ). drop m others) n

@@ -1,4 +1,6 @@
 // The operands of a call in a body: a deck's field, one byte for each lexeme, divided at its commas before anything is replaced.
+#![tactic(auto)]
+
 ghost use Rattle.std.specs.Prelude.{◌≡◌, true, false, ℕ, ◌+◌, ◌-◌, ◌≤◌, length, drop};
 ghost use Rattle.text.specs.Bytes.{same};
 ghost use Rattle.rules.specs.Limits.{name_limit};

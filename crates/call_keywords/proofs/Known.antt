@@ -24,6 +24,7 @@ use Rattle.call_keywords.specs.Defaults.{keywords_at, given_from, are_known}
 among-is : (deck name : Bytes) (at left : ℕ) → 0 < left
     → is_among name (keywords_at deck at left) ≡ (same (run_at deck at) name || is_among name (keywords_at deck (run_end deck (run_end deck at)) (left - 1)))
 unfolding is_among keywords_at
+among-is deck name at zero l = elim l [ ]
 among-is deck name at (suc n) l =
     let m : n ≡ suc n - 1 = omega arith in
     ap (λ (k : ℕ). same (run_at deck at) name || is_among name (keywords_at deck (run_end deck (run_end deck at)) k)) m

@@ -1,4 +1,6 @@
 // A macro's keywords and their defaults, read in the deck where they stand.
+#![tactic(auto)]
+
 ghost use Rattle.std.specs.Prelude.{◌≡◌, ◌+◌, ◌*◌, ◌≤◌, ◌<◌, ◌^◌};
 ghost use Rattle.text.specs.Bytes.{Bytes};
 ghost use Rattle.rules.specs.Calls.{is_among};
@@ -7,7 +9,7 @@ ghost use Rattle.deck_reading.specs.Reading.{run_at, run_end};
 ghost use Rattle.call_keywords.specs.Defaults.{keywords_at, given_from, are_known, value_by};
 
 // What a call gives for a keyword: a value from a place of its operand to another, or nothing, and the default stands.
-#[derive(Drop)]
+#[derive(Clone, Copy)]
 pub enum Given {
     Value(usize, usize),
     Default,

@@ -42,6 +42,7 @@ module _ (s : Bytes) (at end : ℕ) (h : at ≤ length s) (e : end ≡ at + bare
 
   -- one part less
   pub fewer : (left : ℕ) → 0 < left → drop left (parts_from s at) ≡ drop (left - 1) (parts_from s (end + 1))
+  fewer zero l = elim l [ ]
   fewer (suc left) l =
       let n : left ≡ suc left - 1 = omega arith in
       ap (drop (suc left)) (parts-on s at end h e) ∙ ap (λ (m : ℕ). drop m (parts_from s (end + 1))) n

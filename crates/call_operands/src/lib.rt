@@ -1,4 +1,6 @@
 // The operands of a call: a field divided at its commas, the positionals first, then the keywords.
+#![tactic(auto)]
+
 ghost use Rattle.std.specs.Prelude.{◌≡◌, true, false, map, ◌+◌, ◌≤◌, length, drop};
 ghost use Rattle.text.specs.Bytes.{same};
 ghost use Rattle.rules.specs.Limits.{name_limit};
@@ -9,7 +11,7 @@ ghost use Rattle.parts.specs.Parts.{parts_from, parts_of};
 ghost use Rattle.call_operands.specs.Calling.{name_of, named_among, may_stand, are_operands, leading, operands_in};
 
 // A call's operands break the call rules, or so many of their parts are positional and the others keywords.
-#[derive(Drop)]
+#[derive(Clone, Copy)]
 pub enum Divided {
     Bad,
     Parts(usize),

@@ -13,7 +13,7 @@ use borrow.Author.Tests.{leb-true, leb-false, eqb-true, eqb-false, ne_eqb}
 use Rattle.text.specs.Bytes.{Bytes}
 use Rattle.rules.specs.Choice.{choose}
 use Rattle.rules.specs.Lexemes.{Lex}
-use Rattle.rules.specs.Statement.{Set, set_a, set_b, set_c, Line, ends, text, models, sets, branches_if, branches, counts, doing}
+use Rattle.rules.specs.Statement.{Set, set_a, set_b, set_c, Line, text, models, sets, branches_if, branches, counts, doing}
 use Rattle.rules.proofs.Choices.{by}
 use Rattle.deck.specs.Coding.{after, Coder, get_byte, two, pair}
 use Rattle.deck.specs.Slots.{Slot}

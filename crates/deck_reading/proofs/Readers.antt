@@ -12,7 +12,7 @@ use lib.Seq.{drop-cons}
 use borrow.Author.Tests.{ltb-true, ltb-false, le-ltb, eqb-true, eqb-false, ne_eqb}
 use Rattle.text.specs.Bytes.{Bytes}
 use Rattle.rules.specs.Choice.{choose, every}
-use Rattle.rules.specs.Lexemes.{Lex, byte}
+use Rattle.rules.specs.Lexemes.{Lex}
 use Rattle.rules.specs.Statement.{Set}
 use Rattle.rules.proofs.Choices.{either}
 use Rattle.deck.specs.Coding.{after, get_byte, byte as a_byte, two, made, via, list_of}

@@ -1,4 +1,6 @@
 // A deck's heads and lines, read from its bytes.
+#![tactic(auto)]
+
 ghost use Rattle.std.specs.Prelude.{◌≡◌, ◌+◌, ◌<◌, ltb, drop};
 ghost use Rattle.rules.specs.Choice.{every};
 ghost use Rattle.deck.specs.Coding.{two, pair, list_of};
@@ -6,14 +8,14 @@ ghost use Rattle.deck.specs.Coders.{field, string, flag, kind, line};
 ghost use Rattle.deck_reading.specs.Reading.{two_at, run_at, run_end, run_found, field_at, flag_at, kinds_at, keyword_at, line_at, line_in, reads, field_from, run_from, get_from};
 
 // What reading gives: the place behind what was read, or nothing.
-#[derive(Drop)]
+#[derive(Clone, Copy)]
 pub enum Read {
     To(usize),
     Bad,
 }
 
 // What a line does, and where what it has stands: the place behind its first byte, and its three fields.
-#[derive(Drop)]
+#[derive(Clone, Copy)]
 pub struct Fields {
     pub does: u8,
     pub first: usize,

@@ -1,17 +1,16 @@
 -- The values that ACTR may have. Assumes nothing.
-use Prim.Native.Nat.{ℕ, zero, suc, ◌≤◌, ◌<◌}
+use Prim.Native.Nat.{ℕ}
 use mathlib.Core.Path.{◌≡◌, refl, sym, ap, ◌∙◌, subst}
-use mathlib.Core.Bool.{Bool, true, false, true≢false}
+use mathlib.Core.Bool.{true, false, true≢false}
 use native.Mathlib.Omega.{arith}
-use lib.Dec.{ltb, leb, T}
+use lib.Dec.{T}
 use lib.IntN.{ℤ, pos, negsuc, nat_abs}
 use lib.Signed.{lt_z, non_neg}
 use borrow.Author.Tests.{ltb-true, ltb-false, le-leb, lt-leb}
 use mir.Syntax.{w16}
 use mir.Val.{Fits}
-use Rattle.rules.specs.Choice.{choose}
 use Rattle.rules.specs.Limits.{bad_value, counter_limit}
-use Rattle.rules.specs.Decide.{Act, renew, refuse, renewed}
+use Rattle.rules.specs.Decide.{renew, refuse, renewed}
 use Rattle.rules.proofs.Choices.{chosen, passed_over}
 use Rattle.expand_steps.specs.Moving.{Arm}
 use Rattle.expand_steps.specs.declared.Run.{Run}

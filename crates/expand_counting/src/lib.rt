@@ -1,4 +1,6 @@
 // ACTR: a new counter from a SETA value. (To stand in `expand_steps` beside `renews`, once evaluation is there.)
+#![tactic(auto)]
+
 ghost use Rattle.std.specs.Prelude.{ℕ, ◌<◌};
 ghost use Rattle.rules.specs.Decide.{renewed};
 ghost use Rattle.expand_levels.specs.Stack.{Sized, top_of};

@@ -1,5 +1,5 @@
 -- THE STEP: what the rules make of a model statement depends only on what is kept of its line. Assumes nothing.
-use Prim.Native.Nat.{ℕ, zero, suc, ◌≤◌, ◌<◌}
+use Prim.Native.Nat.{ℕ, zero, suc, ◌<◌}
 use native.Mathlib.Omega.{arith}
 use mathlib.Core.Path.{◌≡◌, refl, ap, sym, ◌∙◌}
 use mathlib.Core.Bool.{Bool, true, false, ◌&&◌, ◌||◌, true≢false}
@@ -15,7 +15,7 @@ use Rattle.rules.specs.Choice.{choose, every}
 use Rattle.rules.specs.Limits.{line_limit, string_limit, too_long, language_word}
 use Rattle.rules.specs.Fields.{is_empty}
 use Rattle.rules.specs.Calls.{Operands, laid_out, trimmed}
-use Rattle.rules.specs.Machine.{Machine, Level, State, Move, refuses, calls, puts, is_title, is_language_word, states}
+use Rattle.rules.specs.Machine.{Machine, Level, State, refuses, calls, puts, is_title, is_language_word, states}
 use Rattle.rules.proofs.Choices.{by, chosen, passed_over, and_left, and_right}
 use Rattle.expand_laying.specs.Solid.{solid}
 use Rattle.expand_laying.specs.Kept.{Kept, kept_of, kept_in, laid_kept, states_kept}

@@ -1,6 +1,6 @@
 -- What code keeps of a text that becomes part of a line: its first bytes, its true length, and its length without trailing spaces. Both lengths are those of the
 -- whole text, however long it is; so a line that is laid out from what is kept has the rules' lengths (reading X4: trailing spaces, hundreds of them, may end it).
-use Rattle.std.specs.Prelude.{ℕ, ◌+◌, Bool, ◌||◌, List, ◌++◌, eqb, ltb, length, take, replicate}
+use Rattle.std.specs.Prelude.{ℕ, ◌+◌, ◌||◌, List, ◌++◌, eqb, ltb, length, take, replicate}
 use Rattle.std.proofs.Math.Option.{Option}
 use Rattle.text.specs.Bytes.{Bytes}
 use Rattle.text.specs.Words.{place_among}

@@ -1,4 +1,6 @@
 // A model statement laid out anew, from what is kept of its three fields: their first bytes, and their lengths with and without trailing spaces.
+#![tactic(auto)]
+
 ghost use Rattle.std.specs.Prelude.{◌≡◌, ℕ, ◌+◌, ◌-◌, ◌≤◌, ◌<◌, ◌^◌, length};
 ghost use Rattle.rules.specs.Limits.{line_limit, string_limit};
 ghost use Rattle.lent.specs.Splice.{splice};
@@ -15,14 +17,14 @@ const LINE_LIMIT: usize = 71;
 const FIELD_LIMIT: usize = 255;
 
 // A text's true length, and its length without trailing spaces.
-#[derive(Drop)]
+#[derive(Clone, Copy)]
 pub struct Field {
     pub size: usize,
     pub solid: usize,
 }
 
 // The three fields of a model statement.
-#[derive(Drop)]
+#[derive(Clone, Copy)]
 pub struct Model {
     pub name: Field,
     pub operation: Field,

@@ -1,5 +1,5 @@
 -- The levels that run, as the code has them: an array and how many of it run. Assumes nothing.
-use Rattle.std.specs.Prelude.{ℕ, suc, ◌+◌, ◌-◌, ◌≤◌, ◌≡◌, List, [], ◌∷◌, length, get_or, set, take, replicate}
+use Rattle.std.specs.Prelude.{◌+◌, ◌-◌, ◌≤◌, ◌≡◌, List, length, get_or, set, take, replicate}
 use Rattle.expand_levels.specs.declared.Level.{Level}
 use Rattle.expand_levels.specs.declared.Running.{Running}
 

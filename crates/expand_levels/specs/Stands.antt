@@ -1,5 +1,5 @@
 -- What a level's numbers stand for: the rules' level, whose texts are elsewhere.
-use Rattle.std.specs.Prelude.{ℕ, suc, Bool, List, ltb}
+use Rattle.std.specs.Prelude.{ℕ, suc, List, ltb}
 use Rattle.text.specs.Bytes.{Bytes}
 use Rattle.rules.specs.Choice.{choose}
 use Rattle.rules.specs.Limits.{counter_limit, call_limit}

@@ -1,4 +1,6 @@
 // A running macro, and the number of a call, by value.
+#![tactic(auto)]
+
 ghost use Rattle.std.specs.Prelude.{◌≡◌, Bool, ℕ, eqb, ltb, ◌≤◌, ◌<◌};
 ghost use Rattle.rules.specs.Choice.{choose};
 ghost use Rattle.rules.specs.Machine.{advanced, jumped, renewed_to};
@@ -6,7 +8,7 @@ ghost use Rattle.expand_levels.specs.Stands.{Texts, level_of, fresh_of, numbered
 ghost use Rattle.expand_levels.specs.Stack.{Sized, top_of, none_run, pushed, popped, topped};
 
 // A level: which macro runs, the body line it has come to (the first is 0), the branches it may still take, its call's number.
-#[derive(Drop)]
+#[derive(Clone, Copy)]
 pub struct Level {
     pub body: u16,
     pub line: u16,
@@ -91,13 +93,13 @@ impl Level {
 }
 
 // How many calls have been numbered.
-#[derive(Drop)]
+#[derive(Clone, Copy)]
 pub struct CallNumber {
     pub given: u16,
 }
 
 // The next number, if there is one.
-#[derive(Drop)]
+#[derive(Clone, Copy)]
 pub enum Numbered {
     Call(CallNumber),
     Spent,
@@ -130,7 +132,7 @@ impl CallNumber {
 }
 
 // The levels that run: `depth` of them, the outermost first.
-#[derive(Drop)]
+#[derive(Clone, Copy)]
 pub struct Running {
     pub levels: [Level; 5],
     pub depth: usize,

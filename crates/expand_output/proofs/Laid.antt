@@ -1,13 +1,12 @@
 -- What a line of output means for the rules' output: its bytes, its room, the section's name. Assumes nothing.
-use Prim.Native.Nat.{ℕ, zero, suc, ◌+◌, ◌-◌, ◌≤◌, ◌<◌, min}
-use mathlib.Core.Path.{◌≡◌, refl, sym, ap, ◌∙◌, subst}
+use Prim.Native.Nat.{ℕ, suc, ◌+◌, ◌-◌, ◌≤◌, ◌<◌}
+use mathlib.Core.Path.{◌≡◌, refl, sym, ap, ◌∙◌}
 use mathlib.Core.Bool.{Bool, true, false, true≢false, ◌||◌, not}
-use mathlib.Core.List.{List, [], ◌∷◌, ◌++◌, append_assoc, append-nil}
-use mathlib.Core.Logic.{inl, inr}
+use mathlib.Core.List.{List, [], ◌∷◌, ◌++◌, append_assoc}
 use native.Mathlib.Omega.{arith}
 use lib.Dec.{ltb}
-use lib.ListN.{length, get_or, take, drop, set, length-append, length-take, length-replicate, length-drop}
-use lib.Seq.{take_at, take-take, drop_at, length-take-le, take-append_seam}
+use lib.ListN.{length, take, drop, set, length-append, length-take}
+use lib.Seq.{take_at, take-take, length-take-le, take-append_seam}
 use borrow.Author.Tests.{ltb-true, ltb-false, le-ltb, lt-ltb}
 use Rattle.text.specs.Bytes.{Bytes, bytes, same}
 use Rattle.rules.specs.Choice.{choose, run}

@@ -1,10 +1,12 @@
 // A line of output: its bytes where there is room, and the section's name that it may bring.
+#![tactic(auto)]
+
 ghost use Rattle.std.specs.Prelude.{◌≡◌, ◌≤◌, length};
 ghost use Rattle.rules.specs.Machine.{is_section};
 ghost use Rattle.expand_output.specs.Puts.{put_at, with_line, noted};
 
 // Where the output goes on, or that there is no room.
-#[derive(Drop)]
+#[derive(Clone, Copy)]
 pub enum Put {
     To(usize),
     NoRoom,

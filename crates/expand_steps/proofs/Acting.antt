@@ -7,17 +7,17 @@ use native.Mathlib.Omega.{arith}
 use lib.Dec.{eqb, ltb}
 use lib.ListN.{length, get_or, set}
 use lib.Seq.{get_or-set_same, get_or-set_other}
-use borrow.Author.Tests.{eqb-true, eqb-false, eq-eqb, ne_eqb, lt-ltb}
+use borrow.Author.Tests.{eqb-true, eqb-false, lt-ltb}
 use Rattle.text.specs.Bytes.{Bytes}
 use Rattle.rules.specs.Choice.{choose}
 use Rattle.rules.specs.Limits.{counter_spent}
 use Rattle.rules.specs.Decide.{Act, next, leave, jump, renew, refuse}
-use Rattle.rules.specs.Machine.{State, Answer, refused, Move, on, stop, body_line, refused_at, refuses, with_levels, advanced, jumped, renewed_to, acts}
+use Rattle.rules.specs.Machine.{State, refused, on, body_line, refused_at, refuses, with_levels, advanced, jumped, renewed_to, acts}
 use Rattle.rules.specs.Machine.{Level as RunningLevel}
 use Rattle.rules.proofs.Choices.{by, chosen, passed_over}
 use Rattle.deck.specs.Slots.{Deck, no_macro, machine_of_deck}
 use Rattle.expand_levels.specs.Stands.{Texts, level_of}
-use Rattle.expand_levels.specs.Stack.{Sized, levels_of, no_level, top_of, pushed, popped, topped}
+use Rattle.expand_levels.specs.Stack.{Sized, levels_of, no_level, top_of, popped, topped}
 use Rattle.expand_levels.specs.declared.Level.{Level}
 use Rattle.expand_levels.specs.declared.Running.{Running}
 use Rattle.expand_levels.proofs.Stacks.{count-run, empty-run, top-run, topped-run, popped-sized, topped-sized}

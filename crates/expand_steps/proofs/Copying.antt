@@ -1,34 +1,32 @@
 -- A line that is copied: what it makes of the machine's state. Assumes nothing.
-use Prim.Native.Nat.{ℕ, zero, suc, ◌+◌, ◌-◌, ◌≤◌, ◌<◌}
+use Prim.Native.Nat.{ℕ, suc, ◌+◌, ◌-◌, ◌≤◌, ◌<◌}
 use mathlib.Core.Path.{◌≡◌, refl, sym, ap, ◌∙◌, subst}
-use mathlib.Core.Bool.{Bool, true, false}
-use mathlib.Core.List.{List, [], ◌∷◌, ◌++◌}
-use mathlib.Core.Logic.{inl, inr}
+use mathlib.Core.Bool.{true, false}
+use mathlib.Core.List.{[], ◌∷◌, ◌++◌}
+use mathlib.Core.Logic.{inl}
 use native.Mathlib.Omega.{arith}
-use lib.Dec.{eqb, ltb}
-use lib.ListN.{length, get_or, take, drop}
+use lib.Dec.{ltb}
+use lib.ListN.{length, drop}
 use borrow.Author.Tests.{lt-ltb, le-ltb}
 use Rattle.text.specs.Bytes.{Bytes}
-use Rattle.rules.specs.Choice.{choose}
 use Rattle.rules.specs.Limits.{no_room}
 use Rattle.rules.specs.Fields.{newline}
-use Rattle.rules.specs.Machine.{State, Move, on, stop, refuses, sect_after, output_of, put_out, puts}
+use Rattle.rules.specs.Machine.{State, sect_after, put_out, puts}
 use Rattle.rules.proofs.Choices.{chosen, passed_over}
-use Rattle.deck.specs.Slots.{Deck, machine_of_deck}
-use Rattle.lent.specs.Splice.{splice}
+use Rattle.deck.specs.Slots.{Deck}
 use Rattle.lent.proofs.Writes.{splice-drop-behind, splice-length}
-use Rattle.expand_levels.specs.Stack.{Sized, levels_of, no_level}
+use Rattle.expand_levels.specs.Stack.{Sized, levels_of}
 use Rattle.expand_levels.specs.declared.Running.{Running}
 use Rattle.expand_levels.proofs.Stacks.{count-run}
 use Rattle.work_frames.specs.Layout.{section_at}
-use Rattle.work_frames.specs.Frames.{section_now, index_in, waiting_in, shared_in}
+use Rattle.work_frames.specs.Frames.{index_in, shared_in}
 use Rattle.work_frames.proofs.Elsewhere.{section-elsewhere, waiting-apart, shared-apart, rows_apart}
 use Rattle.expand_output.specs.Puts.{put_at, with_line, noted}
 use Rattle.expand_output.specs.declared.Put.{Put}
 use Rattle.expand_output.specs.declared.Put.TheVariants.{To, NoRoom}
 use Rattle.expand_output.proofs.Laid.{noted-section, noted-there, output-more, line-there, line-front, line-behind, line-left, put-fits, put_refused}
-use Rattle.expand_steps.specs.Moving.{StandsFor, Moves, goes, Sound, Kept}
-use Rattle.expand_steps.specs.Writing.{Modest, Ready, levels_in, Writes, Copied}
+use Rattle.expand_steps.specs.Moving.{StandsFor, Moves, goes}
+use Rattle.expand_steps.specs.Writing.{Modest, levels_in, Copied}
 use Rattle.expand_steps.specs.Runs.{put_to, goes_on, stops_by}
 use Rattle.expand_steps.specs.declared.Run.{Run}
 use Rattle.expand_steps.specs.declared.Stepped.{Stepped}

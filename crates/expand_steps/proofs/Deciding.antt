@@ -1,38 +1,36 @@
 -- A body line by its kind, and a step by the levels. Assumes nothing.
-use Prim.Native.Nat.{ℕ, zero, suc, ◌+◌, ◌*◌, ◌-◌, ◌≤◌, ◌<◌}
+use Prim.Native.Nat.{ℕ, ◌+◌, ◌-◌, ◌≤◌, ◌<◌}
 use mathlib.Core.Path.{◌≡◌, refl, sym, ap, ◌∙◌, subst}
-use mathlib.Core.Bool.{Bool, true, false}
-use mathlib.Core.List.{List, [], ◌∷◌, map}
+use mathlib.Core.Bool.{true}
+use mathlib.Core.List.{List, [], ◌∷◌}
 use native.Mathlib.Omega.{arith}
-use lib.Dec.{eqb, ltb}
-use lib.ListN.{length, get_or, take, drop, get_or-eq_default}
+use lib.Dec.{ltb}
+use lib.ListN.{length, get_or, take, get_or-eq_default}
 use borrow.Author.Tests.{ltb-true, ltb-false, lt-ltb}
 use Rattle.text.specs.Bytes.{Bytes}
 use Rattle.rules.specs.Choice.{choose}
-use Rattle.rules.specs.Fields.{lines_of}
-use Rattle.rules.specs.Statement.{Line, map_does, map_line, doing}
+use Rattle.rules.specs.Statement.{map_does, map_line, doing}
 use Rattle.rules.specs.Evaluate.{Value, Cell}
 use Rattle.rules.specs.Decide.{Act, next, leave, jump, use', decide, decide_by}
-use Rattle.rules.specs.Machine.{State, Answer, done, Move, on, stop, output_of, uses, advanced, acts, reaching, stepped, open_move, act_at, move}
+use Rattle.rules.specs.Machine.{State, done, stop, uses, advanced, acts, reaching, stepped, open_move, act_at, move}
 use Rattle.rules.specs.Machine.{Level as RunningLevel}
 use Rattle.rules.proofs.Choices.{by, chosen, passed_over}
 use Rattle.deck.specs.Slots.{Slot, Deck, DeckMacro, no_macro, no_line, held, deck_header, machine_of_deck}
-use Rattle.deck.specs.Good.{good_deck}
 use Rattle.spans.specs.Spans.{part_of}
 use Rattle.deck_reading.specs.Reading.{two_at, run_at, line_by, line_at}
 use Rattle.expand_levels.specs.Stands.{Texts, level_of}
-use Rattle.expand_levels.specs.Stack.{Sized, levels_of, no_level, top_of, popped, topped}
+use Rattle.expand_levels.specs.Stack.{Sized, no_level, top_of, topped}
 use Rattle.expand_levels.specs.declared.Level.{Level}
 use Rattle.expand_levels.specs.declared.Running.{Running}
 use Rattle.expand_levels.proofs.Stacks.{empty-run}
-use Rattle.work_frames.specs.Frames.{index_in, running_in, waiting_in, macro_of}
-use Rattle.work_frames.specs.Indexed.{four_at, first_in, count_in, found_in, Indexed}
+use Rattle.work_frames.specs.Frames.{index_in, running_in, waiting_in}
+use Rattle.work_frames.specs.Indexed.{found_in, Indexed}
 use Rattle.work_frames.specs.declared.Found.{Found}
 use Rattle.work_frames.specs.declared.Found.TheVariants.{At, Behind}
 use Rattle.work_frames.proofs.Places.{found-told, behind-told}
 use Rattle.lines.proofs.Found.{no-line}
-use Rattle.expand_steps.specs.Moving.{StandsFor, top_in, others_in, Listed, finished, Moves, goes, halts, unready, Sound, Kept, Arm}
-use Rattle.expand_steps.specs.Writing.{Ready, levels_in, Writes, Used}
+use Rattle.expand_steps.specs.Moving.{StandsFor, top_in, others_in, finished, Moves, halts, unready, Sound, Kept, Arm}
+use Rattle.expand_steps.specs.Writing.{Ready, levels_in, Used}
 use Rattle.expand_steps.specs.Steps.{Steps, ActsBy, DoesLine, Bodily}
 use Rattle.expand_steps.specs.Runs.{ticked, with_running, stops_by}
 use Rattle.expand_steps.specs.declared.Run.{Run}

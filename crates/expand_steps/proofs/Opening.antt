@@ -1,26 +1,23 @@
 -- An open line: what it makes of the machine's state. Assumes nothing.
-use Prim.Native.Nat.{ℕ, zero, suc, ◌+◌, ◌-◌, ◌≤◌, ◌<◌}
+use Prim.Native.Nat.{ℕ, suc, ◌+◌, ◌-◌, ◌≤◌, ◌<◌}
 use mathlib.Core.Path.{◌≡◌, refl, sym, ap, ◌∙◌, subst}
-use mathlib.Core.Bool.{Bool, true, false}
-use mathlib.Core.List.{List, [], ◌∷◌}
+use mathlib.Core.List.{[], ◌∷◌}
 use native.Mathlib.Omega.{arith}
 use native.Mathlib.Numerals.{add-one}
 use lib.Dec.{ltb}
 use lib.ListN.{length, take, drop, drop_of_length-le}
 use borrow.Author.Tests.{lt-ltb, le-ltb, ltb-true, ltb-false}
 use Rattle.text.specs.Bytes.{Bytes}
-use Rattle.rules.specs.Choice.{choose}
 use Rattle.rules.specs.Fields.{lines_of}
-use Rattle.rules.specs.Machine.{State, Move, uses, reaching, opened, open_move, move}
+use Rattle.rules.specs.Machine.{State, uses, reaching, opened, open_move, move}
 use Rattle.rules.proofs.Choices.{by, chosen, passed_over}
 use Rattle.deck.specs.Slots.{Deck, machine_of_deck}
 use Rattle.lines.specs.Ends.{line_end}
 use Rattle.lines.proofs.Found.{line-found}
 use Rattle.expand_levels.specs.Stack.{Sized, levels_of}
-use Rattle.expand_levels.specs.declared.Running.{Running}
 use Rattle.expand_levels.proofs.Stacks.{empty-run}
 use Rattle.work_frames.specs.Frames.{waiting_in}
-use Rattle.expand_steps.specs.Moving.{StandsFor, Moves, Sound, Kept}
+use Rattle.expand_steps.specs.Moving.{StandsFor, Moves, Sound}
 use Rattle.expand_steps.specs.Writing.{levels_in, Used}
 use Rattle.expand_steps.specs.Steps.{Steps}
 use Rattle.expand_steps.specs.Runs.{opened_at, past_of}

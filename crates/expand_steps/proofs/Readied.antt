@@ -1,5 +1,5 @@
 -- What good form says of a deck's sizes and titles. Assumes nothing.
-use Prim.Native.Nat.{ℕ, zero, suc, ◌≤◌, ◌<◌}
+use Prim.Native.Nat.{ℕ, zero, suc, ◌≤◌}
 use mathlib.Core.Path.{◌≡◌, refl, sym, ap, ◌∙◌}
 use mathlib.Core.Bool.{Bool, true, false, true≢false, ◌&&◌}
 use mathlib.Core.List.{List, [], ◌∷◌, map}
@@ -9,7 +9,7 @@ use lib.Dec.{leb}
 use lib.ListN.{length, get_or}
 use borrow.Author.Tests.{leb-true}
 use Rattle.text.specs.Bytes.{Bytes}
-use Rattle.rules.specs.Choice.{choose, every}
+use Rattle.rules.specs.Choice.{every}
 use Rattle.rules.specs.Limits.{global_limit, macro_limit, library_limit, parameter_limit, local_limit}
 use Rattle.rules.specs.Statement.{Set}
 use Rattle.rules.specs.Faults.{is_macro_name}
@@ -20,7 +20,7 @@ use Rattle.deck.specs.Good.{total_lines, are_distinct, is_macro, is_sound, is_re
 use Rattle.tables.specs.Titles.{fits_row}
 use Rattle.tables.proofs.Among.{macro-name-fits}
 use Rattle.work_frames.specs.Indexed.{Indexed}
-use Rattle.expand_steps.specs.Writing.{Modest, Ready}
+use Rattle.expand_steps.specs.Writing.{Ready}
 
 is_some : Option Deck → Bool
 is_some none = false

@@ -1,20 +1,18 @@
 -- A line that is used as it stands: refused, a call, or copied. Assumes nothing.
-use Prim.Native.Nat.{ℕ, zero, suc, ◌+◌, ◌-◌, ◌/◌, ◌≤◌, ◌<◌}
+use Prim.Native.Nat.{ℕ, ◌/◌}
 use mathlib.Core.Path.{◌≡◌, refl, sym, ap, ◌∙◌, subst}
-use mathlib.Core.Bool.{Bool, true, false}
-use mathlib.Core.List.{List, [], ◌∷◌, map}
+use mathlib.Core.Bool.{true, false}
+use mathlib.Core.List.{List, map}
 use native.Mathlib.Omega.{arith}
 use lib.Dec.{ltb}
-use lib.ListN.{length, get_or, length-map}
-use borrow.Author.Tests.{lt-ltb, le-ltb}
+use lib.ListN.{length}
 use Rattle.text.specs.Bytes.{Bytes}
 use Rattle.text.specs.Words.{words, place_among, word_number}
-use Rattle.rules.specs.Choice.{choose, every}
+use Rattle.rules.specs.Choice.{every}
 use Rattle.rules.specs.Limits.{bad_byte, language_word}
 use Rattle.rules.specs.Fields.{is_ill_written, statement_fields}
 use Rattle.rules.specs.Library.{operation_of}
-use Rattle.rules.specs.Machine.{Machine, State, Move, refuses, is_title, is_language_word, puts, uses}
-use Rattle.rules.specs.Machine.{Level as RunningLevel}
+use Rattle.rules.specs.Machine.{State, Move, is_title, is_language_word, uses}
 use Rattle.rules.proofs.Choices.{chosen, passed_over}
 use Rattle.deck.specs.Slots.{Deck, machine_of_deck}
 use Rattle.names.specs.Names.{titles_in, padded}
@@ -23,9 +21,9 @@ use Rattle.expand_titles.proofs.Places.{rows-count}
 use Rattle.expand_levels.specs.Stack.{Sized}
 use Rattle.expand_levels.specs.declared.Running.{Running}
 use Rattle.work_frames.specs.Frames.{index_in}
-use Rattle.work_frames.specs.Indexed.{macros_in, title_rows, Indexed}
-use Rattle.expand_steps.specs.Moving.{StandsFor, Moves, unready, Sound, Kept}
-use Rattle.expand_steps.specs.Writing.{Ready, levels_in, Writes, Copied, Used}
+use Rattle.work_frames.specs.Indexed.{macros_in, title_rows}
+use Rattle.expand_steps.specs.Moving.{StandsFor, Moves, unready}
+use Rattle.expand_steps.specs.Writing.{Ready, Writes, Copied, Used}
 use Rattle.expand_steps.specs.Runs.{stops_by}
 use Rattle.expand_steps.specs.declared.Run.{Run}
 use Rattle.expand_steps.specs.declared.Stepped.{Stepped}

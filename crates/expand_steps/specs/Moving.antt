@@ -1,5 +1,5 @@
 -- What a step and a run of the code say of the machine's.
-use Rattle.std.specs.Prelude.{ℕ, suc, ◌+◌, ◌≤◌, ◌<◌, ◌≡◌, List, [], eqb, length, get_or, take, drop}
+use Rattle.std.specs.Prelude.{ℕ, suc, ◌≤◌, ◌<◌, ◌≡◌, List, [], eqb, length, get_or, take, drop}
 use Rattle.text.specs.Bytes.{Bytes}
 use Rattle.rules.specs.Choice.{choose}
 use Rattle.rules.specs.Decide.{Act}
@@ -7,7 +7,6 @@ use Rattle.rules.specs.Machine.{State, Answer, done, refused, Move, on, stop, ac
 use Rattle.rules.specs.Machine.{Level as RunningLevel}
 use Rattle.deck.specs.Slots.{Deck, machine_of_deck}
 use Rattle.expand_levels.specs.Stack.{Sized, levels_of, no_level, top_of, popped}
-use Rattle.expand_levels.specs.declared.Level.{Level}
 use Rattle.expand_levels.specs.declared.Running.{Running}
 use Rattle.work_frames.specs.Frames.{Holds, running_in, waiting_in, index_in}
 use Rattle.expand_steps.specs.declared.Run.{Run}

@@ -1,4 +1,6 @@
 // One step of an expansion: how far it has come, by value, and what one line does to it.
+#![tactic(auto)]
+
 ghost use Rattle.std.specs.Prelude.{◌≡◌, ℕ, ◌≤◌, ◌<◌, ◌^◌, length};
 ghost use Rattle.rules.specs.Decide.{Act, next, leave, jump, renew, refuse, use'};
 ghost use Rattle.expand_levels.specs.Stack.{Sized, top_of};
@@ -18,7 +20,7 @@ ghost use Rattle.deck_reading.specs.Reading.{run_at, line_at};
 ghost use Rattle.expand_steps.specs.Runs.{ticked, past_of, opened_at, with_running, put_to, goes_on, stops_by};
 
 // The place in the program, the open line's number, the steps, the bytes and lines put out, the calls numbered, the levels.
-#[derive(Drop)]
+#[derive(Clone, Copy)]
 pub struct Run {
     pub at: usize,
     pub line: usize,
@@ -30,7 +32,7 @@ pub struct Run {
 }
 
 // What a step leaves: `halt` is 0 if it goes on, 255 if all is done, else a refusal's number; `at` is where in the field it arose.
-#[derive(Drop)]
+#[derive(Clone, Copy)]
 pub struct Stepped {
     pub run: Run,
     pub halt: u8,

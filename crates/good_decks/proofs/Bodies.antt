@@ -1,6 +1,6 @@
 -- The tests of a body's lines one after another are the tests of all of them. Assumes nothing.
 use Prim.Native.Nat.{ℕ, zero, suc, ◌+◌}
-use mathlib.Core.Path.{◌≡◌, refl, sym, ap, ◌∙◌}
+use mathlib.Core.Path.{◌≡◌, refl, sym, ap, subst, ◌∙◌}
 use mathlib.Core.Bool.{Bool, true, false, ◌&&◌, ◌||◌, not, true≢false, or-and_distrib_right, or-true}
 use mathlib.Core.List.{List, [], ◌∷◌}
 use native.Mathlib.Omega.{arith}
@@ -140,19 +140,32 @@ module _ (order : ℕ → Line Slot ℕ → Bool) (o : ByActr order) where
   unfolding hold_from counts_where seen_after counts_once any every choose actr_end
   turn-actr p l ls h again =
       let m = actr-not-before l.does h in
-      let next : p.lines + 1 ≡ suc p.lines = omega arith in
-      rw (again, h, m)
-      (at-actr-only p.clear (order p.actr l) (order (p.lines + 1) l) (any_counts ls) (counts_once ls) _ _ (o.at-actr p.actr (p.lines + 1) l h) (none-counts ls)
-      (λ f. rw (no-actr ls f, next)))
+      let end : actr_end (l ∷ ls) ≡ 1 = chosen _ _ h in
+      let one : p.lines + 1 ≡ suc p.lines = omega arith in
+      let behind : actr_from p.lines p.actr (l ∷ ls) ≡ suc p.lines = ap (λ (n : ℕ). choose (eqb n 0) p.actr (p.lines + n)) end ∙ one in
+      let so : (seen_after p l).actr ≡ suc p.lines = chosen _ _ h in
+      let rest : hold_from here seen_after (seen_after p l) ls ≡ (counts_once ls && ((p.clear && may_precede l.does || not (any_counts ls)) && every (order (actr_from (suc p.lines) (suc p.lines) ls)) ls)) =
+      subst (λ (n : ℕ). hold_from here seen_after (seen_after p l) ls ≡ (counts_once ls && ((p.clear && may_precede l.does || not (any_counts ls)) && every (order (actr_from (suc p.lines) n ls)) ls))) so again in
+      subst (λ (n : ℕ). hold_from here seen_after p (l ∷ ls) ≡ (counts_once (l ∷ ls) && ((p.clear || not (any_counts (l ∷ ls))) && every (order n) (l ∷ ls)))) (sym behind)
+      (rw (rest, h, m)
+      (at-actr-only p.clear (order p.actr l) (order (suc p.lines) l) (any_counts ls) (counts_once ls) _ _ (o.at-actr p.actr (suc p.lines) l h) (none-counts ls)
+      (λ f. ap (λ (n : ℕ). every (order n) ls) (ap (λ (n : ℕ). choose (eqb n 0) (suc p.lines) (suc p.lines + n)) (no-actr ls f)))))
 
   -- another line
   turn-other : (p : Seen) (l : Line Slot ℕ) (ls : List (Line Slot ℕ)) → does_count l.does ≡ false → Walked (seen_after p l) ls → Walked p (l ∷ ls)
   unfolding hold_from counts_where seen_after counts_once any every choose actr_end
   turn-other p l ls h again =
       let behind = actr_from (suc p.lines) p.actr ls in
-      rw (again, h, one_more (actr_end ls) p.lines p.actr)
+      let end : actr_end (l ∷ ls) ≡ choose (eqb (actr_end ls) 0) 0 (suc (actr_end ls)) = passed_over _ _ h in
+      let there : actr_from p.lines p.actr (l ∷ ls) ≡ behind =
+      ap (λ (n : ℕ). choose (eqb n 0) p.actr (p.lines + n)) end ∙ one_more (actr_end ls) p.lines p.actr in
+      let so : (seen_after p l).actr ≡ p.actr = passed_over _ _ h in
+      let rest : hold_from here seen_after (seen_after p l) ls ≡ (counts_once ls && ((p.clear && may_precede l.does || not (any_counts ls)) && every (order behind) ls)) =
+      subst (λ (n : ℕ). hold_from here seen_after (seen_after p l) ls ≡ (counts_once ls && ((p.clear && may_precede l.does || not (any_counts ls)) && every (order (actr_from (suc p.lines) n ls)) ls))) so again in
+      subst (λ (n : ℕ). hold_from here seen_after p (l ∷ ls) ≡ (counts_once (l ∷ ls) && ((p.clear || not (any_counts (l ∷ ls))) && every (order n) (l ∷ ls)))) (sym there)
+      (rw (rest, h)
       (on-others p.clear (may_precede l.does) (order p.actr l) (order behind l) (any_counts ls) (counts_once ls) (every (order behind) ls)
-      (alike (may_precede l.does) (any_counts ls) (o.before-actr p.actr behind l) (λ f. ap (λ (n : ℕ). order (choose (eqb n 0) p.actr (suc p.lines + n)) l) (sym (no-actr ls f)))))
+      (alike (may_precede l.does) (any_counts ls) (o.before-actr p.actr behind l) (λ f. ap (λ (n : ℕ). order (choose (eqb n 0) p.actr (suc p.lines + n)) l) (sym (no-actr ls f))))))
     where
       one_more : (n i actr : ℕ) → choose (eqb (choose (eqb n 0) 0 (suc n)) 0) actr (i + choose (eqb n 0) 0 (suc n)) ≡ choose (eqb n 0) actr (suc i + n)
       one_more zero i actr = refl

@@ -6,7 +6,7 @@ use mathlib.Core.List.{List, ◌∷◌}
 use mathlib.Core.Option.{Option, none, some}
 use Rattle.text.specs.Bytes.{Bytes}
 use Rattle.rules.specs.Choice.{choose}
-use Rattle.deck.specs.Coding.{Read, after, Coder, get_all, pair, made}
+use Rattle.deck.specs.Coding.{Read, after, Coder, get_all, pair}
 use Rattle.good_decks.specs.Walk.{need, sift, walk, hold_from}
 
 -- ---- one thing behind another

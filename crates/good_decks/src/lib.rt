@@ -1,4 +1,6 @@
 // The test of good form in one pass over a deck's bytes: the lines of a body. (The laws of the whole pass are in proofs/.)
+#![tactic(auto)]
+
 ghost use Rattle.std.specs.Prelude.{◌≡◌, List, ◌+◌, ◌<◌, ◌^◌, drop};
 ghost use Rattle.rules.specs.Statement.{Set};
 ghost use Rattle.deck.specs.Slots.{DeckMacro};
@@ -11,7 +13,7 @@ use deck_reading::Read;
 
 // What the pass has seen of a body: how many lines, how many of them up to ACTR and with it (0 where there is none yet),
 // and whether ACTR may still come.
-#[derive(Drop)]
+#[derive(Clone, Copy)]
 pub struct Seen {
     pub lines: usize,
     pub actr: usize,

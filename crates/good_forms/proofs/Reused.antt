@@ -1,20 +1,19 @@
 -- The lexemes that the grammar's check sees in a deck's bytes are the deck's own, with their kinds: so its functions serve the test of good form as they are.
-use Prim.Native.Nat.{ℕ, zero, suc, ◌+◌, ◌-◌, ◌≤◌, ◌<◌}
-use mathlib.Core.Path.{◌≡◌, refl, sym, ap, ◌∙◌}
-use mathlib.Core.Bool.{Bool, true, false}
+use Prim.Native.Nat.{ℕ, ◌+◌, ◌-◌, ◌<◌}
+use mathlib.Core.Path.{◌≡◌, refl, ap, ◌∙◌}
+use mathlib.Core.Bool.{true}
 use mathlib.Core.List.{List, [], ◌∷◌, map}
-use mathlib.Core.Option.{Option, none, some}
 use native.Mathlib.Omega.{arith}
 use lib.Dec.{eqb, ltb}
-use lib.ListN.{length, get_or, drop}
-use borrow.Author.Tests.{ltb-true, ltb-false, lt-ltb, le-ltb, eqb-true, eqb-false, ne_eqb}
+use lib.ListN.{get_or}
+use borrow.Author.Tests.{ltb-true, ltb-false, lt-ltb, eqb-false}
 use Rattle.text.specs.Bytes.{Bytes}
 use Rattle.rules.specs.Choice.{choose}
-use Rattle.rules.specs.Lexemes.{Lex, byte, mark, ref, lone}
+use Rattle.rules.specs.Lexemes.{Lex, ref}
 use Rattle.rules.specs.Statement.{Set, map_lex}
-use Rattle.rules.specs.Grammar.{Kind, symbol, unknown}
-use Rattle.rules.proofs.Choices.{by, chosen, passed_over}
-use Rattle.deck.specs.Slots.{Slot, DeckMacro, own_kinds_of, slot_kind}
+use Rattle.rules.specs.Grammar.{Kind}
+use Rattle.rules.proofs.Choices.{by}
+use Rattle.deck.specs.Slots.{DeckMacro, slot_kind}
 use Rattle.deck.specs.Coders.{lex_of as slot_of}
 use Rattle.grammar.specs.Tokens.{kind_of, lex_of, toks_at}
 use Rattle.deck_reading.specs.Reading.{or_lone, slot_lex}

@@ -1,4 +1,6 @@
 // Whether a line of a deck is in good form: its lexemes, its order, and its form by the grammar's check of translation.
+#![tactic(auto)]
+
 ghost use Rattle.std.specs.Prelude.{◌≡◌, List, map, ◌+◌, ◌<◌, ltb, length};
 ghost use Rattle.rules.specs.Choice.{choose};
 ghost use Rattle.rules.specs.Statement.{Set, map_line};

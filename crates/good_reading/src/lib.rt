@@ -1,4 +1,6 @@
 // Whether fields, lines and defaults are as 01's reader gives them, over a deck's bytes: one for each lexeme.
+#![tactic(auto)]
+
 ghost use Rattle.std.specs.Prelude.{◌≡◌, not, ◌&&◌, [], ◌∷◌, map, ℕ, ◌+◌, ◌<◌, eqb, length};
 ghost use Rattle.rules.specs.Choice.{choose, every, passed};
 ghost use Rattle.rules.specs.Lexemes.{space, byte_of, follows, outside, enters};
@@ -11,7 +13,7 @@ ghost use Rattle.good_reading.specs.Trails.{before_of, reads_by, trail_after, en
 
 // What lexemes leave behind them: the two bytes before the next one (spaces at the field's start), whether a quote is open, and whether an ampersand
 // stands there that is no pair yet.
-#[derive(Drop)]
+#[derive(Clone, Copy)]
 pub struct Trail {
     pub second: u8,
     pub first: u8,

@@ -1,4 +1,6 @@
 // The tests of good form that are not grammar: names, defaults, lexemes, lines used as they stand, branch targets.
+#![tactic(auto)]
+
 ghost use Rattle.std.specs.Prelude.{◌≡◌, true, not, ◌&&◌, map, ℕ, ◌<◌};
 ghost use Rattle.text.specs.Bytes.{bytes};
 ghost use Rattle.rules.specs.Choice.{every};

@@ -1,16 +1,15 @@
 -- A chain of operands goes on as its loop in the code does: grammar's Chains, with values. Assumes nothing.
-use mathlib.Core.Path.{◌≡◌, refl, sym, ap, ◌∙◌, subst}
-use mathlib.Core.Bool.{Bool, true, false, ◌||◌, true≢false}
-use mathlib.Core.List.{List, [], ◌∷◌, ◌++◌, map}
+use mathlib.Core.Path.{◌≡◌, refl, sym, ap, ◌∙◌}
+use mathlib.Core.Bool.{Bool, true, false, true≢false}
+use mathlib.Core.List.{List, [], ◌∷◌, map}
 use mathlib.Core.Option.{Option, none, some}
-use Prim.Native.Nat.{ℕ, zero, suc, ◌+◌, ◌<◌, ◌≤◌}
+use Prim.Native.Nat.{ℕ, suc, ◌+◌, ◌<◌, ◌≤◌}
 use native.Mathlib.Omega.{arith}
 use native.Mathlib.Nat.{le_refl}
 use lib.Dec.{eqb}
 use lib.ListN.{length, drop, length-append}
 use lib.IntN.{ℤ}
 use Rattle.text.specs.Bytes.{Bytes, member}
-use Rattle.rules.specs.Choice.{while}
 use Rattle.rules.specs.Lexemes.{Lex}
 use Rattle.rules.specs.Values.{operate}
 use Rattle.rules.specs.Grammar.{Got, got, refused, plain, rest, then, given, goes_on, turn, chain}
@@ -20,7 +19,7 @@ use Rattle.value_sums.specs.declared.Number.{Number}
 use Rattle.value_sums.specs.declared.Number.TheVariants.{Value, Refused}
 use Rattle.value_sums.specs.Answers.{lex_by, toks_by, tells}
 use Rattle.value_sums.proofs.Answers.{toks-drop}
-use Rattle.value_wholes.proofs.Rules.{Past, Passes, on, off}
+use Rattle.value_wholes.proofs.Rules.{Passes}
 use Rattle.value_arithmetic.specs.Evaluating.{goes_by, Next, operated}
 
 -- what is left to read

@@ -1,27 +1,26 @@
 -- The rules of arithmetic with values, as the code goes through them: one law for each case that it tells apart. Assumes nothing.
 use mathlib.Core.Path.{◌≡◌, refl, sym, ap, ◌∙◌, subst}
-use mathlib.Core.Bool.{Bool, true, false, true≢false}
+use mathlib.Core.Bool.{Bool, true, false}
 use mathlib.Core.List.{List, [], ◌∷◌}
-use mathlib.Core.Option.{Option, none, some}
+use mathlib.Core.Option.{some}
 use Prim.Native.Nat.{ℕ, zero, suc, ◌+◌, ◌-◌, ◌<◌, ◌≤◌}
 use native.Mathlib.Omega.{arith}
 use native.Mathlib.Numerals.{sub-one}
 use lib.Dec.{eqb, ltb}
 use lib.ListN.{length, drop, get_or}
 use lib.IntN.{ℤ}
-use borrow.Author.Tests.{eq-eqb, ne_eqb, ltb-true, ltb-false, eqb-true, eqb-false}
+use borrow.Author.Tests.{eq-eqb, ne_eqb, ltb-true, ltb-false, eqb-false}
 use Rattle.text.specs.Bytes.{Bytes, bytes, member}
 use Rattle.text.specs.Characters.{digit}
 use Rattle.rules.specs.Choice.{choose}
-use Rattle.rules.specs.Lexemes.{Lex, byte, mark, ref, lone, comma, opening, closing}
-use Rattle.rules.specs.Limits.{ill_formed, over_limit}
+use Rattle.rules.specs.Lexemes.{Lex, byte, mark, ref, lone, comma}
 use Rattle.rules.specs.Fields.{is_empty}
-use Rattle.rules.specs.Statement.{Set, set_a, set_b, set_c}
+use Rattle.rules.specs.Statement.{set_a, set_b, set_c}
 use Rattle.rules.specs.Values.{operate}
 use Rattle.rules.specs.Grammar.{Kind, parameter, symbol, syslist, sysndx, sysect, unknown, Got, got, refused, Reference, plain, rest, is_attribute, then, broken, given, closed}
 use Rattle.rules.specs.Grammar.{subscripts, reference, referred, decimal_number, term, product, sum, deeper, arithmetic}
 use Rattle.rules.specs.Evaluate.{Cell, values}
-use Rattle.rules.proofs.Choices.{by, either, chosen, passed_over}
+use Rattle.rules.proofs.Choices.{by, chosen, passed_over}
 use Rattle.grammar.specs.Kinds.{number_of, table_of}
 use Rattle.value_sums.specs.declared.Whole.{Whole}
 use Rattle.value_sums.specs.declared.Number.{Number}
@@ -30,7 +29,7 @@ use Rattle.value_sums.specs.declared.Number.TheVariants.{Refused as Wrong}
 use Rattle.value_sums.specs.Answers.{option_of, lex_by, toks_by, tells}
 use Rattle.value_sums.proofs.Places.{toks-end, toks-step}
 use Rattle.value_sums.proofs.Answers.{toks-rest, then-value}
-use Rattle.value_wholes.proofs.Rules.{Passes, passes-term, passes-product, passes-deeper}
+use Rattle.value_wholes.proofs.Rules.{passes-term, passes-product, passes-deeper}
 use Rattle.value_references.specs.declared.Referred.{Referred}
 use Rattle.value_references.specs.declared.Referred.TheVariants.{Bare, One, Two, Refused}
 use Rattle.value_references.specs.Referring.{ref_to, tells_reference, subscripts_of, kind_by, meaning_of}

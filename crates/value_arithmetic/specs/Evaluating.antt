@@ -1,5 +1,5 @@
 -- What the functions of evaluation answer.
-use Rattle.std.specs.Prelude.{ℕ, ◌≡◌, Bool, true, false, List, [], ◌∷◌, length, drop, ℤ}
+use Rattle.std.specs.Prelude.{ℕ, ◌≡◌, Bool, true, false, List, drop, ℤ}
 use Rattle.text.specs.Bytes.{Bytes}
 use Rattle.rules.specs.Choice.{choose}
 use Rattle.rules.specs.Lexemes.{Lex}

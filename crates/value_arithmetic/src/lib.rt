@@ -1,4 +1,6 @@
 // Arithmetic expressions over a field's bytes, where they stand in the deck, with values in the workspace.
+#![tactic(auto)]
+
 ghost use Rattle.std.specs.Prelude.{◌≡◌, Bool, true, List, [], ◌∷◌, ℕ, ◌+◌, ◌<◌, eqb, length, get_or, ℤ};
 ghost use Rattle.std.proofs.Math.Option.{Option, some};
 ghost use Rattle.text.specs.Bytes.{Bytes, member};

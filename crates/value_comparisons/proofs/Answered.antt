@@ -1,17 +1,16 @@
 -- What the next rule makes of a condition's answer. Assumes nothing.
-use Prim.Native.Nat.{ℕ, zero, suc, ◌+◌, ◌-◌, ◌≤◌, ◌<◌}
+use Prim.Native.Nat.{ℕ, suc, ◌+◌, ◌-◌, ◌≤◌, ◌<◌}
 use native.Mathlib.Omega.{arith}
 use mathlib.Core.Path.{◌≡◌, refl, ap, sym, ◌∙◌}
-use mathlib.Core.Bool.{Bool, true, false, not, ◌&&◌, and-false}
+use mathlib.Core.Bool.{Bool, true, false, ◌&&◌, and-false}
 use mathlib.Core.List.{List, [], ◌∷◌, map}
 use lib.Dec.{eqb, ltb}
 use lib.ListN.{length, drop, length-drop, length-map, drop_of_length-le}
 use borrow.Author.Tests.{ltb-true, ltb-false, eq-eqb, ne_eqb}
 use Rattle.text.specs.Bytes.{Bytes}
 use Rattle.rules.specs.Choice.{choose, run}
-use Rattle.rules.specs.Limits.{ill_formed}
 use Rattle.rules.specs.Lexemes.{Lex, byte_of, space, closing}
-use Rattle.rules.specs.Grammar.{Got, got, refused, plain, rest, past_spaces, then, broken, closed, is_digit_alone, constant_at}
+use Rattle.rules.specs.Grammar.{Got, got, plain, past_spaces, then, broken, closed, is_digit_alone, constant_at}
 use Rattle.rules.specs.Evaluate.{Cell, Truth}
 use Rattle.rules.proofs.Choices.{by, chosen, passed_over}
 use Rattle.grammar.specs.Tokens.{lex_of, toks_at}

@@ -1,7 +1,7 @@
 -- Comparisons by what the code has: two numbers; two strings of which it keeps what counts. Assumes nothing.
-use Prim.Native.Nat.{ℕ, zero, suc}
+use Prim.Native.Nat.{ℕ}
 use mathlib.Core.Path.{◌≡◌, refl, ap, sym, ◌∙◌}
-use mathlib.Core.Bool.{Bool, true, false, not, ◌&&◌, ◌||◌, true≢false}
+use mathlib.Core.Bool.{Bool, true, false, ◌||◌, true≢false}
 use mathlib.Core.List.{List, [], ◌∷◌}
 use mathlib.Core.Option.{Option, none, some}
 use lib.Dec.{eqb, ltb}
@@ -13,11 +13,11 @@ use Rattle.rules.specs.Limits.{string_limit}
 use Rattle.rules.specs.Lexemes.{Lex, period}
 use Rattle.rules.specs.Fields.{is_empty}
 use Rattle.rules.specs.Values.{Order, Relation, string_order, number_order, holds, number_in, type_of}
-use Rattle.rules.specs.Grammar.{Got, got, refused, Reference, Kind, plain, rest, is_attribute, after_t, then, given, broken, chain, string, referred, reference, deeper, characters, string_within}
-use Rattle.rules.specs.Evaluate.{Cell, Chars, Truth, values, certain, chars, measured_chars, type_chars, text_of, and_then}
+use Rattle.rules.specs.Grammar.{Got, got, refused, Reference, plain, rest, is_attribute, after_t, then, given, broken, chain, string, referred, reference, deeper, characters, string_within}
+use Rattle.rules.specs.Evaluate.{Cell, Chars, Truth, values, chars, measured_chars, type_chars, text_of, and_then}
 use Rattle.rules.proofs.Choices.{by, chosen, passed_over, either}
 use Rattle.spans.specs.Spans.{part_of}
-use Rattle.value_texts.specs.Held.{Held, keeping, cut, held_in}
+use Rattle.value_texts.specs.Held.{keeping, cut, held_in}
 use Rattle.value_texts.specs.declared.Text.{Text}
 use Rattle.value_comparisons.specs.Truths.{cut_truth, truth_in, cutting, bytes_held, strings_held}
 

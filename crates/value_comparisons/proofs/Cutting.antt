@@ -1,17 +1,17 @@
 -- What code knows of a truth is kept through NOT, AND, OR and comparisons: a condition read by `cutting` is the rules' condition, cut. Assumes nothing.
 use Prim.Native.Nat.{ℕ, zero, suc}
-use mathlib.Core.Path.{◌≡◌, refl, ap, sym, ◌∙◌}
+use mathlib.Core.Path.{◌≡◌, refl, ap, ◌∙◌}
 use mathlib.Core.Bool.{Bool, true, false, not, ◌&&◌, ◌||◌}
 use mathlib.Core.List.{List, [], ◌∷◌}
 use mathlib.Core.Option.{Option, none, some}
-use lib.Dec.{eqb, ltb}
+use lib.Dec.{eqb}
 use lib.ListN.{length, drop}
 use lib.IntN.{ℤ}
-use Rattle.text.specs.Bytes.{Bytes, bytes}
+use Rattle.text.specs.Bytes.{bytes}
 use Rattle.rules.specs.Choice.{choose, while}
-use Rattle.rules.specs.Lexemes.{Lex, byte, mark, ref, lone, opening, closing, apostrophe}
+use Rattle.rules.specs.Lexemes.{Lex, byte, mark, ref, lone, opening}
 use Rattle.rules.specs.Values.{Relation}
-use Rattle.rules.specs.Grammar.{Got, got, refused, Kind, plain, rest, past_spaces, is_word, is_attribute, relation_at, then, broken, given, closed, whole, goes_on, turn, chain, deeper, sum, product, term, decimal_number, referred, reference, subscripts, arithmetic, characters, string_within, string, substringed, quoted_text, piece, add_piece, add_quoted, goes_on_quoted, is_doubled, compared_strings, is_digit_alone, constant_at, compared_numbers, is_flag, element, spaced, negation, conjunction, disjunction, deeper_condition, condition}
+use Rattle.rules.specs.Grammar.{Got, got, refused, plain, rest, past_spaces, is_word, relation_at, then, broken, given, closed, whole, goes_on, turn, chain, deeper, sum, product, term, decimal_number, referred, reference, subscripts, arithmetic, characters, string_within, string, substringed, quoted_text, piece, add_piece, add_quoted, goes_on_quoted, is_doubled, compared_strings, is_digit_alone, constant_at, compared_numbers, is_flag, element, spaced, negation, conjunction, disjunction, deeper_condition, condition}
 use Rattle.rules.specs.Evaluate.{Cell, Chars, Truth, values, certain}
 use Rattle.rules.specs.Decide.{Act, when_got, unless}
 use Rattle.value_comparisons.specs.Truths.{cut_truth, truth_in, cut_truth_got, cutting}

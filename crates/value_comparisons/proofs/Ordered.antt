@@ -1,11 +1,10 @@
 -- Orders byte by byte, relations word by word. Assumes nothing.
-use Prim.Native.Nat.{ℕ, zero, suc, ◌+◌, ◌-◌, ◌≤◌, ◌<◌}
+use Prim.Native.Nat.{ℕ, zero, suc, ◌+◌, ◌≤◌, ◌<◌}
 use native.Mathlib.Omega.{arith}
 use mathlib.Core.Path.{◌≡◌, refl, ap, sym, ◌∙◌}
-use mathlib.Core.Bool.{Bool, true, false, not, ◌&&◌, ◌||◌}
+use mathlib.Core.Bool.{Bool, true, false, not}
 use mathlib.Core.List.{List, [], ◌∷◌, map}
-use mathlib.Core.Option.{Option, none, some}
-use lib.Dec.{eqb, ltb}
+use mathlib.Core.Option.{none, some}
 use lib.ListN.{length, take, drop, get_or, drop_of_length-le}
 use lib.Seq.{drop-cons}
 use lib.IntN.{ℤ}
@@ -16,15 +15,15 @@ use Rattle.text.specs.Characters.{letter_or_digit}
 use Rattle.text.proofs.Same.{same-is}
 use Rattle.rules.specs.Choice.{choose, run}
 use Rattle.rules.specs.Lexemes.{Lex, byte_of}
-use Rattle.rules.specs.Values.{Order, less, equal, greater, Relation, eq, ne, lt, le, gt, ge, byte_order, first_differing, string_order, number_order, holds}
+use Rattle.rules.specs.Values.{Order, less, equal, greater, eq, ne, lt, le, gt, ge, byte_order, first_differing, string_order, number_order, holds}
 use Rattle.rules.specs.Grammar.{plain, word_at, is_word, relation_at}
 use Rattle.rules.specs.Evaluate.{Cell}
-use Rattle.rules.proofs.Choices.{by, chosen, passed_over}
+use Rattle.rules.proofs.Choices.{chosen, passed_over}
 use Rattle.rules.proofs.Symbols.{same-sym}
 use Rattle.grammar.specs.Tokens.{lex_of, toks_at}
 use Rattle.value_sums.specs.Answers.{lex_by, toks_by}
 use Rattle.value_sums.proofs.Answers.{same-plain}
-use Rattle.value_comparisons.specs.Orders.{relation_of, related_of, is_less, is_equal, is_greater}
+use Rattle.value_comparisons.specs.Orders.{relation_of, is_less, is_equal, is_greater}
 use Rattle.value_comparisons.specs.declared.Relation.{Relation as RelationIs}
 use Rattle.value_comparisons.specs.declared.Relation.TheVariants.{Eq, Ne, Lt, Le, Gt, Ge}
 

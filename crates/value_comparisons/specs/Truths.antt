@@ -1,6 +1,6 @@
 -- What code knows of a condition's truth: nothing of whether it holds, where a string on the way to it was over 255 bytes. `cutting` is the rules' own sense of
 -- expressions with this alone left out, so that a condition in code is read by the rules' own grammar.
-use Rattle.std.specs.Prelude.{ℕ, Bool, ◌&&◌, ◌||◌, not, ℤ}
+use Rattle.std.specs.Prelude.{◌&&◌, ◌||◌, not, ℤ}
 use Rattle.text.specs.Bytes.{Bytes}
 use Rattle.rules.specs.Values.{Relation, string_order, holds}
 use Rattle.rules.specs.Grammar.{Got, got, refused, Sense}

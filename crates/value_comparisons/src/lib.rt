@@ -1,4 +1,6 @@
 // Comparisons of values, and what a condition is made of: orders, relations, and truth that may have come from too long a string.
+#![tactic(auto)]
+
 ghost use Rattle.std.specs.Prelude.{◌≡◌, Bool, ℕ, List};
 ghost use Rattle.text.specs.Bytes.{bytes};
 ghost use Rattle.rules.specs.Values.{string_order, number_order};
@@ -19,14 +21,14 @@ use value_texts::Text;
 // What the longest string has.
 const STRING_LIMIT: usize = 255;
 
-#[derive(Drop)]
+#[derive(Clone, Copy)]
 pub enum Order {
     Less,
     Equal,
     Greater,
 }
 
-#[derive(Drop)]
+#[derive(Clone, Copy)]
 pub enum Relation {
     Eq,
     Ne,
@@ -37,21 +39,21 @@ pub enum Relation {
 }
 
 // The relation that stands at a place, if one does.
-#[derive(Drop)]
+#[derive(Clone, Copy)]
 pub enum Related {
     By(Relation),
     Nothing,
 }
 
 // What a condition has come to: whether it holds, and whether a string on the way to it was over 255 bytes. Where one was, `holds` says nothing.
-#[derive(Drop)]
+#[derive(Clone, Copy)]
 pub struct Truth {
     pub holds: bool,
     pub over: bool,
 }
 
 // What reading a condition gives: its truth and the place behind it; or a refusal's number, and the place of what is refused.
-#[derive(Drop)]
+#[derive(Clone, Copy)]
 pub enum Condition {
     Value(Truth, usize),
     Refused(u8, usize),

@@ -1,11 +1,11 @@
 -- What a reference takes of the text that its symbol stands for, and what that is as a number. Assumes nothing.
-use Prim.Native.Nat.{ℕ, zero, suc, pred, ◌+◌, ◌*◌, ◌-◌, ◌≤◌, ◌<◌}
+use Prim.Native.Nat.{ℕ, zero, suc, pred, ◌≤◌}
 use native.Mathlib.Omega.{arith}
-use mathlib.Core.Path.{◌≡◌, refl, ap, sym, ◌∙◌, subst}
+use mathlib.Core.Path.{◌≡◌, refl, ap, sym, ◌∙◌}
 use mathlib.Core.Bool.{Bool, true, false, ◌&&◌, true≢false}
 use mathlib.Core.List.{List, [], ◌∷◌}
 use mathlib.Core.Option.{Option, none, some}
-use lib.Dec.{T, eqb, ltb}
+use lib.Dec.{T, eqb}
 use lib.ListN.{length, get_or, take, drop}
 use lib.Seq.{take-length}
 use lib.IntN.{ℤ, pos, negsuc, nat_abs}
@@ -16,16 +16,15 @@ use mir.Facts.{Fits-nat_abs}
 use borrow.Author.Tests.{ltb-true, eqb-true, eq-eqb}
 use Rattle.text.specs.Bytes.{Bytes}
 use Rattle.rules.specs.Fields.{is_empty}
-use Rattle.rules.specs.Statement.{Set, set_a, set_b, set_c}
+use Rattle.rules.specs.Statement.{set_a, set_b, set_c}
 use Rattle.rules.specs.Values.{entry, listed, number_in, number_of_entries, four_digits, magnitude}
 use Rattle.rules.specs.Grammar.{Kind, parameter, symbol, syslist, sysndx, sysect, unknown, Reference, as_term, after_k, after_n}
-use Rattle.rules.specs.Evaluate.{Value, number, string, Cell, shown, and_then, of_parameter, of_list, text_of, as_number, count_bytes, count_entries, number_of as integer_of}
+use Rattle.rules.specs.Evaluate.{number, Cell, shown, and_then, of_parameter, of_list, text_of, as_number, count_bytes, count_entries, number_of as integer_of}
 use Rattle.rules.specs.Choice.{choose}
-use Rattle.rules.proofs.Choices.{by, and_left, and_right}
+use Rattle.rules.proofs.Choices.{and_left, and_right}
 use Rattle.grammar.specs.Kinds.{number_of, table_of}
 use Rattle.spans.specs.Spans.{part_of}
 use Rattle.value_sums.specs.declared.Whole.{Whole}
-use Rattle.value_sums.specs.declared.Whole.TheVariants.{Some, Nothing}
 use Rattle.value_sums.specs.Answers.{option_of}
 use Rattle.value_sublists.specs.declared.Part.{Part}
 use Rattle.value_sublists.specs.declared.Part.TheVariants.{In, Nothing as NoPart}
@@ -33,7 +32,6 @@ use Rattle.value_sublists.specs.Entries.{part_in}
 use Rattle.value_references.specs.declared.Referred.{Referred}
 use Rattle.value_references.specs.declared.Referred.TheVariants.{Bare, One, Two, Refused}
 use Rattle.value_references.specs.Referring.{ref_to, subscripts_of, is_bare, place_of, first_of, is_placed, basis_of, meaning_of}
-use Rattle.value_references.proofs.Standing.{is-parameter, is-list}
 
 -- ---- subscripts
 

@@ -1,10 +1,10 @@
 -- What a reference in a field says, and where what it stands for is kept.
-use Rattle.std.specs.Prelude.{ℕ, zero, suc, ◌+◌, ◌*◌, ◌-◌, Bool, true, false, List, [], ◌∷◌, eqb, ltb, length, get_or, ℤ, pos, negsuc}
+use Rattle.std.specs.Prelude.{ℕ, zero, suc, ◌+◌, ◌-◌, Bool, true, false, List, [], ◌∷◌, eqb, ltb, length, get_or, ℤ, pos, negsuc}
 use Rattle.std.proofs.Math.Option.{Option, none, some}
 use Rattle.text.specs.Bytes.{Bytes}
 use Rattle.rules.specs.Choice.{choose}
 use Rattle.rules.specs.Lexemes.{Lex, byte, mark, ref, lone}
-use Rattle.rules.specs.Statement.{Set, set_a, set_b, set_c}
+use Rattle.rules.specs.Statement.{set_a, set_b, set_c}
 use Rattle.rules.specs.Grammar.{Kind, parameter, symbol, syslist, sysndx, sysect, unknown, Reference, Got, got, refused}
 use Rattle.rules.specs.Evaluate.{Cell, shown, as_number, count_bytes, count_entries}
 use Rattle.grammar.specs.Kinds.{number_of}

@@ -1,4 +1,6 @@
 // What a reference stands for: its text where it is kept, and its number.
+#![tactic(auto)]
+
 ghost use Rattle.std.specs.Prelude.{◌≡◌, true, List, [], ℕ, pred, ◌+◌, ◌*◌, ◌≤◌, ◌<◌, length, get_or, ℤ, pos};
 ghost use Rattle.std.proofs.Math.Option.{Option, some};
 ghost use Rattle.text.specs.Bytes.{Bytes};
@@ -15,7 +17,7 @@ ghost use Rattle.work_frames.specs.Holding.{set_kind, kind_in, Holding};
 ghost use Rattle.value_references.specs.Referring.{ref_to, subscripts_of, is_bare, first_of, place_of, kind_by, cell_number, is_placed, basis_of, run_place, meaning_of};
 
 // What reading a reference gives: its subscripts and the place behind it; or a refusal's number, and the place of the refused term or operator.
-#[derive(Drop)]
+#[derive(Clone, Copy)]
 pub enum Referred {
     Bare(usize),
     One(i32, usize),

@@ -1,25 +1,23 @@
 -- Types of references, and substrings, as the code finds them. Assumes nothing.
-use Prim.Native.Nat.{ℕ, zero, suc, ◌+◌, ◌-◌, ◌≤◌, ◌<◌}
+use Prim.Native.Nat.{ℕ, zero, suc, ◌-◌, ◌≤◌, ◌<◌}
 use native.Mathlib.Omega.{arith}
 use mathlib.Core.Path.{◌≡◌, refl, ap, sym, ◌∙◌}
 use mathlib.Core.Bool.{Bool, true, false, true≢false}
 use mathlib.Core.List.{List, [], ◌∷◌}
 use mathlib.Core.Option.{Option, none, some}
-use lib.Dec.{ltb}
 use lib.ListN.{length, take, drop}
 use lib.IntN.{ℤ, pos, negsuc, nat_abs}
 use lib.Signed.{lt_z}
-use borrow.Author.Tests.{ltb-true, ltb-false, lt-ltb, le-ltb}
+use borrow.Author.Tests.{ltb-true, lt-ltb, le-ltb}
 use Rattle.text.specs.Bytes.{Bytes}
 use Rattle.rules.specs.Choice.{choose}
 use Rattle.rules.specs.Lexemes.{Lex, byte, mark, ref, lone}
 use Rattle.rules.specs.Fields.{is_empty}
-use Rattle.rules.specs.Statement.{Set, set_a, set_b, set_c}
 use Rattle.rules.specs.Values.{type_of, substring}
-use Rattle.rules.specs.Grammar.{Kind, parameter, symbol, syslist, sysndx, sysect, unknown, Reference, Got, got, refused, then, given, broken, reference, referred, after_t}
+use Rattle.rules.specs.Grammar.{Kind, parameter, symbol, syslist, sysndx, sysect, unknown, Reference, Got, got, then, given, broken, reference, referred, after_t}
 use Rattle.rules.specs.Evaluate.{Cell, Chars, chars, values, and_then, text_of, type_chars}
 use Rattle.rules.proofs.Choices.{by, chosen, passed_over}
-use Rattle.grammar.specs.Kinds.{number_of, table_of}
+use Rattle.grammar.specs.Kinds.{table_of}
 use Rattle.spans.specs.Spans.{part_of}
 use Rattle.value_sublists.specs.declared.Part.{Part}
 use Rattle.value_sublists.specs.declared.Part.TheVariants.{In, Nothing as NoPart}

@@ -1,4 +1,6 @@
 // String expressions over a field's bytes: T' of a reference, and which part of a string a substring is.
+#![tactic(auto)]
+
 ghost use Rattle.std.specs.Prelude.{◌≡◌, Bool, true, List, ℕ, ◌<◌, length, ℤ};
 ghost use Rattle.std.proofs.Math.Option.{Option, some};
 ghost use Rattle.text.specs.Bytes.{Bytes};
@@ -18,14 +20,14 @@ ghost use Rattle.value_arithmetic.specs.Evaluating.{Stands};
 ghost use Rattle.value_strings.specs.Typing.{known_by, chars_by, tells_type, typed_by};
 
 // A type, or none.
-#[derive(Drop)]
+#[derive(Clone, Copy)]
 pub enum Known {
     Is(u8),
     Nothing,
 }
 
 // What T' gives: a type and the place behind it; or a refusal's number, and the place of the refused term.
-#[derive(Drop)]
+#[derive(Clone, Copy)]
 pub enum Typed {
     As(u8, usize),
     Refused(u8, usize),

@@ -4,10 +4,10 @@ use native.Mathlib.Numerals.{add-one}
 use native.Mathlib.Omega.{arith}
 use native.Mathlib.Nat.{le_refl}
 use mathlib.Core.Path.{◌≡◌, refl, ap, sym, ◌∙◌, subst}
-use mathlib.Core.Bool.{Bool, true, false, ◌&&◌, ◌||◌, not, true≢false}
+use mathlib.Core.Bool.{Bool, true, false, ◌&&◌, not, true≢false}
 use mathlib.Core.List.{List, [], ◌∷◌, ◌++◌, append-nil}
 use mathlib.Core.Option.{Option, none, some}
-use lib.Dec.{T, eqb, ltb}
+use lib.Dec.{T, eqb}
 use lib.IntN.{ℤ, pos, negsuc, nat_abs}
 use lib.Signed.{lt_z, non_neg}
 use mir.Syntax.{w32, w64}
@@ -15,9 +15,8 @@ use mir.Val.{SFits, Fits}
 use mir.Facts.{Fits-nat_abs}
 use lib.ListN.{length, get_or, take, drop, drop_of_length-le, length-append, length-drop}
 use lib.Seq.{drop-cons, take-suc, get_or-drop, append_snoc, get_or-append_seam, take-length}
-use borrow.Author.Tests.{ltb-true, not-false, eqb-true, eqb-false, eq-eqb, ne_eqb, lt-ltb, le-ltb}
+use borrow.Author.Tests.{ltb-true, not-false, eqb-true, eqb-false, eq-eqb, ne_eqb}
 use Rattle.text.specs.Bytes.{Bytes, bytes}
-use Rattle.text.specs.Characters.{letter}
 use Rattle.rules.specs.Choice.{choose, on_first}
 use Rattle.rules.specs.Lexemes.{space, apostrophe, opening, closing, comma, Lex, byte, mark, byte_of, field_start, is_mark, after, marked, Inside, outside, enters}
 use Rattle.rules.specs.Values.{divided_in, entries_of, entry, number_of_entries, number_in, type_of}
@@ -29,7 +28,6 @@ use Rattle.spans.specs.Spans.{part_of}
 use Rattle.value_sublists.specs.declared.Passed.{Passed}
 use Rattle.value_sublists.specs.declared.Cut.{Cut}
 use Rattle.value_sublists.specs.declared.Cut.TheVariants.{Entries, Whole}
-use Rattle.value_sublists.specs.declared.Part.{Part}
 use Rattle.value_sublists.specs.declared.Part.TheVariants.{In, Nothing as NoPart}
 use Rattle.value_sums.specs.declared.Whole.{Whole as Number}
 use Rattle.value_sums.specs.declared.Whole.TheVariants.{Some, Nothing}

@@ -1,10 +1,12 @@
 // Sublists: an operand's entries where they stand in it, their number, and an operand's type.
+#![tactic(auto)]
+
 ghost use Rattle.std.specs.Prelude.{◌≡◌, Bool, [], ◌∷◌, ℕ, ◌+◌, ◌-◌, ◌≤◌, ◌<◌, ◌^◌, length};
 ghost use Rattle.rules.specs.Values.{type_of, entry, entries_of, number_of_entries};
 ghost use Rattle.value_sublists.specs.Entries.{edges, passed_by, cut_in, cut_by, part_in};
 
 // Where a scan of a sublist stands: so many entries have ended, the next starts at `start`; the wanted one stands at `at` with its size, if it has ended.
-#[derive(Drop)]
+#[derive(Clone, Copy)]
 pub struct Passed {
     pub count: usize,
     pub start: usize,
@@ -13,14 +15,14 @@ pub struct Passed {
 }
 
 // A sublist: the number of its entries, and where the wanted one stands, with its size; or an operand that is no sublist.
-#[derive(Drop)]
+#[derive(Clone, Copy)]
 pub enum Cut {
     Entries(usize, usize, usize),
     Whole,
 }
 
 // A part of an operand, by its place and size; or none.
-#[derive(Drop)]
+#[derive(Clone, Copy)]
 pub enum Part {
     In(usize, usize),
     Nothing,

@@ -8,16 +8,16 @@ use lib.ListN.{length, drop}
 use lib.Seq.{drop-drop}
 use lib.IntN.{ℤ, ◌+ℤ◌, ◌-ℤ◌, ◌*ℤ◌}
 use lib.Signed.{quot_z}
-use mathlib.Core.Option.{Option, none, some}
+use mathlib.Core.Option.{none, some}
 use borrow.Author.Tests.{eq-eqb, ne_eqb}
 use Rattle.rules.specs.Values.{within, operate}
 use Rattle.text.specs.Bytes.{Bytes}
 use Rattle.rules.specs.Choice.{choose}
-use Rattle.rules.specs.Lexemes.{Lex, byte, mark, ref, lone, byte_of, closing}
+use Rattle.rules.specs.Lexemes.{Lex, byte, mark, ref, lone, byte_of}
 use Rattle.rules.specs.Limits.{ill_formed}
 use Rattle.rules.specs.Grammar.{Kind, Got, got, refused, plain, rest, then, given, broken, closed}
 use Rattle.rules.specs.Evaluate.{Cell}
-use Rattle.rules.proofs.Choices.{by, either, chosen, passed_over}
+use Rattle.rules.proofs.Choices.{chosen, passed_over}
 use Rattle.grammar.specs.Tokens.{lex_of, toks_at}
 use Rattle.value_sums.specs.Answers.{option_of, lex_by, toks_by, tells}
 use Rattle.value_sums.specs.declared.Whole.{Whole}

@@ -1,27 +1,26 @@
 -- Decimal numbers, digit by digit: in a field, and as a value. Assumes nothing.
-use Prim.Native.Nat.{ℕ, zero, suc, ◌+◌, ◌*◌, ◌-◌, ◌≤◌, ◌<◌}
+use Prim.Native.Nat.{ℕ, ◌+◌, ◌*◌, ◌-◌, ◌≤◌, ◌<◌}
 use native.Mathlib.Omega.{arith}
 use native.Mathlib.Nat.{le_refl, lt_of_lt_of_le}
 use native.Mathlib.Numerals.{add-one}
 use mathlib.Core.Path.{◌≡◌, refl, ap, sym, ◌∙◌}
-use mathlib.Core.Bool.{Bool, true, false, ◌&&◌, ◌||◌, true≢false}
+use mathlib.Core.Bool.{Bool, true, false, ◌&&◌, ◌||◌}
 use mathlib.Core.List.{List, [], ◌∷◌, map}
 use mathlib.Core.Option.{Option, none, some}
-use lib.Dec.{eqb, leb, ltb}
+use lib.Dec.{leb, ltb}
 use lib.ListN.{length, take, drop, get_or, drop_of_length-le}
 use lib.Seq.{drop-cons}
-use lib.IntN.{ℤ, pos, negsuc}
-use lib.Signed.{lt_z}
+use lib.IntN.{ℤ, pos}
 use borrow.Author.Tests.{lt-ltb, le-ltb, le-leb, lt-leb}
 use Rattle.text.specs.Bytes.{Bytes}
 use Rattle.text.specs.Characters.{digit, letter}
 use Rattle.rules.specs.Choice.{choose, run, every}
 use Rattle.rules.specs.Lexemes.{Lex, byte, byte_of}
-use Rattle.rules.specs.Values.{spelt, within, number_in, least, greatest}
+use Rattle.rules.specs.Values.{spelt, within, number_in}
 use Rattle.rules.specs.Grammar.{Got, got, plain, broken, decimal_number}
 use Rattle.rules.specs.Evaluate.{Cell, values}
 use Rattle.rules.proofs.Choices.{chosen, passed_over, by}
-use Rattle.grammar.proofs.Numbers.{digit-bounds, digit-some}
+use Rattle.grammar.proofs.Numbers.{digit-some}
 use Rattle.value_sums.specs.Answers.{toks_by}
 use Rattle.value_sums.proofs.Places.{text-step}
 

@@ -1,21 +1,18 @@
 -- What a place of a field shows to evaluation, whatever its symbols stand for: as grammar's Places has it for kinds. Assumes nothing.
-use Prim.Native.Nat.{ℕ, zero, suc, ◌+◌, ◌-◌, ◌≤◌, ◌<◌}
+use Prim.Native.Nat.{ℕ, ◌+◌, ◌≤◌, ◌<◌}
 use native.Mathlib.Omega.{arith}
 use native.Mathlib.Numerals.{add-one}
-use mathlib.Core.Path.{◌≡◌, refl, ap, sym, ◌∙◌, subst}
-use mathlib.Core.Bool.{Bool, true, false, ◌&&◌, not, true≢false}
+use mathlib.Core.Path.{◌≡◌, refl, ap, sym, ◌∙◌}
+use mathlib.Core.Bool.{Bool, true, false, ◌&&◌}
 use mathlib.Core.List.{List, [], ◌∷◌, map}
-use lib.Dec.{eqb, leb, ltb}
+use lib.Dec.{eqb, ltb}
 use lib.ListN.{length, drop, get_or, drop_of_length-le}
 use lib.Seq.{drop-cons}
-use borrow.Author.Tests.{ltb-true, ltb-false, lt-ltb, le-ltb, ne_eqb}
 use Rattle.text.specs.Bytes.{Bytes}
 use Rattle.rules.specs.Choice.{choose}
 use Rattle.rules.specs.Lexemes.{Lex, byte, mark, ref, lone, byte_of}
-use Rattle.rules.specs.Fields.{is_empty}
 use Rattle.rules.specs.Grammar.{Kind, plain, starts_mark, rest, is_attribute}
 use Rattle.rules.specs.Evaluate.{Cell}
-use Rattle.rules.proofs.Choices.{by}
 use Rattle.grammar.specs.Tokens.{lex_of, toks_at}
 use Rattle.grammar.proofs.Places.{toks-rest as kinds-rest}
 use Rattle.value_sums.specs.Answers.{lex_by, toks_by}

@@ -1,5 +1,5 @@
 -- What evaluation's answers say: a place in a field stands for the lexemes from there on.
-use Rattle.std.specs.Prelude.{ℕ, ◌+◌, ◌≡◌, Bool, List, map, eqb, ltb, length, drop, ℤ}
+use Rattle.std.specs.Prelude.{ℕ, ◌≡◌, List, map, eqb, ltb, length, drop, ℤ}
 use Rattle.std.proofs.Math.Option.{Option, none, some}
 use Rattle.text.specs.Bytes.{Bytes}
 use Rattle.rules.specs.Choice.{choose}

@@ -1,4 +1,6 @@
 // Arithmetic on values: operations on i32, each computed in i64, and the operators of an expression.
+#![tactic(auto)]
+
 ghost use Rattle.std.specs.Prelude.{◌≡◌, List, ℕ, ℤ, ◌+ℤ◌, ◌-ℤ◌, ◌*ℤ◌};
 ghost use Rattle.std.specs.Int.Signed.{quot_z};
 ghost use Rattle.rules.specs.Values.{within, number_in};
@@ -10,14 +12,14 @@ ghost use Rattle.rules.specs.Grammar.{closed as closed_by};
 ghost use Rattle.value_sums.specs.Answers.{option_of, toks_by, tells};
 
 // A number in range, or none.
-#[derive(Drop)]
+#[derive(Clone, Copy)]
 pub enum Whole {
     Some(i32),
     Nothing,
 }
 
 // What evaluation gives: a number and the place behind it; or a refusal's number, and the place of the refused term or operator.
-#[derive(Drop)]
+#[derive(Clone, Copy)]
 pub enum Number {
     Value(i32, usize),
     Refused(u8, usize),

@@ -1,12 +1,12 @@
 -- What is kept of strings is kept through every operation on them. Assumes nothing.
-use Prim.Native.Nat.{ℕ, zero, suc, ◌+◌, ◌-◌, ◌≤◌, ◌<◌}
+use Prim.Native.Nat.{ℕ, ◌+◌, ◌≤◌, ◌<◌}
 use mathlib.Core.Path.{◌≡◌, refl, sym, ap, ◌∙◌}
-use mathlib.Core.Bool.{Bool, true, false, ◌||◌, true≢false}
-use mathlib.Core.List.{List, [], ◌∷◌, ◌++◌}
+use mathlib.Core.Bool.{Bool, true, false, ◌||◌}
+use mathlib.Core.List.{[], ◌∷◌, ◌++◌}
 use native.Mathlib.Omega.{arith}
 use lib.Dec.{ltb}
 use lib.ListN.{length, take, drop, length-append}
-use lib.Seq.{take-append_seam, length-take-le, take-append-add}
+use lib.Seq.{take-append_seam, length-take-le}
 use borrow.Author.Tests.{ltb-true, ltb-false, lt-ltb, le-ltb}
 use Rattle.text.specs.Bytes.{Bytes}
 use Rattle.rules.specs.Choice.{choose}
@@ -15,7 +15,7 @@ use Rattle.rules.specs.Evaluate.{Chars, chars, joined_chars, measured_chars}
 use Rattle.rules.proofs.Choices.{by}
 use Rattle.lent.specs.Splice.{splice}
 use Rattle.lent.proofs.Writes.{splice-is}
-use Rattle.value_texts.specs.Held.{Held, keeping, cut, held_in, joined_held, measured_held}
+use Rattle.value_texts.specs.Held.{keeping, cut, held_in, joined_held, measured_held}
 use Rattle.value_texts.specs.declared.Text.{Text}
 
 keeps-none : (over : Bool) (n : ℕ) (s : Bytes) → 255 < n → keeping over n s ≡ []

@@ -1,9 +1,11 @@
 // Strings in a lent buffer, with their true lengths.
+#![tactic(auto)]
+
 ghost use Rattle.std.specs.Prelude.{◌≡◌, ℕ, ◌+◌, ◌≤◌, ◌<◌, ◌^◌, List, length};
 ghost use Rattle.value_texts.specs.Held.{held_in, joined_held, measured_held};
 
 // A string's true length, and whether one on the way to it was over 255 bytes.
-#[derive(Drop)]
+#[derive(Clone, Copy)]
 pub struct Text {
     pub size: usize,
     pub over: bool,

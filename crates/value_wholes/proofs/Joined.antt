@@ -10,11 +10,11 @@ use native.Mathlib.Nat.{le_refl}
 use lib.ListN.{length, length-append}
 use Rattle.rules.specs.Choice.{choose, while}
 use Rattle.rules.specs.Fields.{is_empty}
-use Rattle.rules.specs.Lexemes.{apostrophe, comma, period, Lex, byte, mark, ref, lone, Inside, enters, is_bare}
+use Rattle.rules.specs.Lexemes.{comma, period, Lex, byte, mark, ref, lone, Inside, enters, is_bare}
 use Rattle.rules.specs.Grammar
 use Rattle.rules.specs.Grammar.{Kind, Reference, Got, got, refused, Sense, plain, rest, then, broken, given}
 use Rattle.rules.proofs.Choices.{either}
-use Rattle.value_wholes.specs.Stillness.{state_after, has_no_bare, Calm}
+use Rattle.value_wholes.specs.Stillness.{state_after}
 use Rattle.value_wholes.proofs.Stills.{calm-none, calm-both, calm-period, state-symbol, after_both, not-read}
 use Rattle.value_wholes.proofs.Rules.{Calmly, calmly, calm-symbol, passes-deeper, assoc, first_byte}
 use Rattle.value_wholes.proofs.Local.{tail, Agree, same, beyond, local-piece, local-deeper}

@@ -1,24 +1,23 @@
 -- A rule of the grammar gives the same whether the field goes on behind a comma or ends there, unless it reads past the comma. One law for each combinator and rule.
-use Prim.Native.Nat.{ℕ, zero, suc, ◌+◌, ◌≤◌, ◌<◌}
+use Prim.Native.Nat.{ℕ, zero, suc, ◌≤◌, ◌<◌}
 use mathlib.Core.Path.{◌≡◌, refl, ap, sym, ◌∙◌, subst}
 use mathlib.Core.Bool.{Bool, true, false, false≢true, ◌&&◌, ◌||◌}
 use mathlib.Core.List.{List, [], ◌∷◌, ◌++◌, map}
 use mathlib.Core.Option.{Option, none, some}
 use native.Mathlib.Omega.{arith}
 use native.Mathlib.Nat.{le_refl}
-use lib.Dec.{eqb, leb, ltb}
+use lib.Dec.{eqb, ltb}
 use lib.ListN.{length, take, drop, length-append}
 use Rattle.text.specs.Bytes.{bytes, member}
 use Rattle.text.specs.Characters.{letter, digit}
 use Rattle.rules.specs.Choice.{choose, run, while}
 use Rattle.rules.specs.Lexemes.{opening, closing, comma, period, Lex, byte, mark, ref, lone, byte_of}
 use Rattle.rules.specs.Values.{spelt}
-use Rattle.rules.specs.Fields.{is_empty}
 use Rattle.rules.specs.Grammar
 use Rattle.rules.specs.Grammar.{Kind, parameter, symbol, syslist, sysndx, sysect, unknown, Reference, Got, got, refused, Sense, plain, rest, starts_mark, is_attribute, then, broken, given, closed, goes_on, turn, chain}
-use Rattle.rules.proofs.Choices.{by, either, and_left, and_right, chosen, passed_over}
+use Rattle.rules.proofs.Choices.{either, and_left, and_right}
 use Rattle.value_wholes.specs.Stillness.{is_quiet}
-use Rattle.value_wholes.proofs.Rules.{clash, Past, nothing-past, past-byte, past_one, two-quiet, Passes, Closes, passes-from, passes-choose, passes_then, passes-given, passes-broken, passes-pair, closes-from, closes-choose, closes-then, closes-closed, closes-subscripts, passes-while, passes-reference, passes-referred, passes-term, passes-product, passes-sum, passes-deeper}
+use Rattle.value_wholes.proofs.Rules.{clash, Past, nothing-past, past-byte, past_one, two-quiet, Passes, Closes, passes-from, passes-choose, passes_then, passes-given, passes-broken, closes-from, closes-choose, closes-then, closes-closed, passes-while, passes-term, passes-product, passes-deeper}
 
 -- what is left is no longer than before
 pub data Shrinks {R A : Type 0} (x : List (Lex R)) : Got A R → Type 0 where

@@ -1,7 +1,7 @@
 -- The text of a call's operand field is that of its parts, with commas between them: so what the operands' values take is no more than what the laid-out line has.
 use Prim.Native.Nat.{ℕ, zero, suc, ◌+◌, ◌≤◌}
 use mathlib.Core.Path.{◌≡◌, refl, ap, sym, ◌∙◌, subst}
-use mathlib.Core.Bool.{Bool, true, false, ◌&&◌, not}
+use mathlib.Core.Bool.{true}
 use mathlib.Core.List.{List, [], ◌∷◌, ◌++◌}
 use native.Mathlib.Omega.{arith}
 use native.Mathlib.Nat.{le_refl}
@@ -9,9 +9,8 @@ use lib.Dec.{eqb}
 use lib.ListN.{length, length-append}
 use borrow.Author.Tests.{eqb-true}
 use Rattle.text.specs.Bytes.{Bytes}
-use Rattle.rules.specs.Choice.{choose, on_first}
+use Rattle.rules.specs.Choice.{on_first}
 use Rattle.rules.specs.Lexemes.{comma, Lex, byte, mark, ref, lone, byte_of, Inside, outside, enters, is_bare}
-use Rattle.rules.specs.Grammar
 use Rattle.rules.specs.Grammar.{Got, got, refused}
 use Rattle.rules.specs.Limits.{nest_limit}
 use Rattle.rules.specs.Decide.{replaced, operand_value}

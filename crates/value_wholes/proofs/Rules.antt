@@ -1,15 +1,15 @@
 -- What an arithmetic rule of the grammar reads is still: its parentheses pair, and it has no quotes. One law for each combinator and each rule. Assumes nothing.
 use Prim.Native.Nat.{ℕ, zero, suc}
 use mathlib.Core.Path.{◌≡◌, refl, ap, sym, ◌∙◌, subst}
-use mathlib.Core.Bool.{Bool, true, false, false≢true, ◌&&◌, ◌||◌}
+use mathlib.Core.Bool.{Bool, true, false, false≢true, ◌||◌}
 use mathlib.Core.List.{List, [], ◌∷◌, ◌++◌}
 use mathlib.Core.Option.{Option, none, some}
-use lib.Dec.{eqb, leb, ltb}
+use lib.Dec.{eqb, leb}
 use lib.ListN.{length, drop}
 use native.Mathlib.Omega.{arith}
 use borrow.Author.Tests.{eqb-true, ne_eqb, leb-true}
 use Rattle.text.specs.Bytes.{bytes, member}
-use Rattle.text.specs.Characters.{letter, digit}
+use Rattle.text.specs.Characters.{digit}
 use Rattle.rules.specs.Choice.{choose, run, while}
 use Rattle.rules.specs.Lexemes.{opening, closing, comma, Lex, byte, mark, ref, lone, byte_of}
 use Rattle.rules.specs.Grammar

@@ -1,10 +1,10 @@
 -- The sign and the four bytes of an i32. Assumes nothing.
-use Prim.Native.Nat.{ℕ, zero, suc, ◌+◌, ◌-◌, ◌≤◌, ◌<◌, ◌^◌}
-use mathlib.Core.Path.{◌≡◌, refl, ap, sym, ◌∙◌}
-use mathlib.Core.Bool.{Bool, true, false, false≢true, true≢false, cond}
+use Prim.Native.Nat.{ℕ, suc, ◌-◌, ◌<◌}
+use mathlib.Core.Path.{◌≡◌, refl}
+use mathlib.Core.Bool.{true, false, true≢false}
 use native.Mathlib.Omega.{arith}
 use lib.Dec.{ltb, T}
-use lib.IntN.{ℤ, pos, negsuc, sub_ℕ, nat_abs, ◌-ℤ◌}
+use lib.IntN.{ℤ, pos, negsuc, nat_abs, ◌-ℤ◌}
 use lib.Signed.{mag, lt_z, non_neg}
 use borrow.Author.Tests.{ltb-true, le-ltb}
 use mir.Syntax.{w32, w64}

@@ -1,4 +1,6 @@
 // Values of SET symbols in the workspace, in cells of 256 bytes.
+#![tactic(auto)]
+
 ghost use Rattle.std.specs.Prelude.{◌≡◌, ℕ, ◌+◌, ◌*◌, ◌≤◌, ◌<◌, length, ◌∷◌, ◌^◌};
 ghost use Rattle.lent.specs.Splice.{splice};
 ghost use Rattle.work_cells.specs.Cells.{cell_of, four_in, integer_in, four_of, sign_of, integer_cell, string_in, truth_cell, string_cell};

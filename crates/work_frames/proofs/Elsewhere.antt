@@ -1,19 +1,18 @@
 -- What is written in one place of the workspace leaves the levels, the section's name, the globals and the index that stand elsewhere. Assumes nothing.
-use Prim.Native.Nat.{ℕ, zero, suc, ◌+◌, ◌*◌, ◌-◌, ◌≤◌, ◌<◌}
-use mathlib.Core.Path.{◌≡◌, refl, sym, ap, ◌∙◌}
+use Prim.Native.Nat.{ℕ, suc, ◌+◌, ◌*◌, ◌≤◌, ◌<◌}
+use mathlib.Core.Path.{◌≡◌, refl, ap, ◌∙◌}
 use mathlib.Core.List.{List, [], ◌∷◌, ◌++◌}
-use mathlib.Core.Logic.{◌⊎◌, inl, inr, ⊎_elim}
+use mathlib.Core.Logic.{inl, inr, ⊎_elim}
 use native.Mathlib.Omega.{arith}
-use lib.ListN.{length, get_or, take, drop}
+use lib.ListN.{length, get_or}
 use Rattle.text.specs.Bytes.{Bytes}
-use Rattle.rules.specs.Evaluate.{Value}
 use Rattle.rules.specs.Machine.{Level as RunningLevel}
 use Rattle.deck.specs.Slots.{DeckMacro, Deck, no_macro, parameters}
 use Rattle.lent.specs.Splice.{splice}
 use Rattle.spans.specs.Spans.{part_of}
-use Rattle.work_cells.specs.Cells.{cell_size, values_from}
+use Rattle.work_cells.specs.Cells.{cell_size}
 use Rattle.work_cells.proofs.Kept.{Apart, part_apart, values-apart}
-use Rattle.expand_levels.specs.Stands.{Texts, level_of}
+use Rattle.expand_levels.specs.Stands.{level_of}
 use Rattle.expand_levels.specs.declared.Level.{Level}
 use Rattle.work_frames.specs.Layout.{local_cell, global_cell, lines_at, index_size, section_at, section_size, level_at, level_size, section_in, parameters_in, text_in}
 use Rattle.work_frames.specs.Frames.{run_at, runs_at, parameters_from, level_in, texts_in, section_now, index_in, macro_of, running_in, waiting_in, shared_in}

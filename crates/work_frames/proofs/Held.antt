@@ -4,7 +4,7 @@ use mathlib.Core.Path.{◌≡◌, refl, sym, ap, ◌∙◌}
 use mathlib.Core.Bool.{Bool, true, false, true≢false}
 use mathlib.Core.List.{List, [], ◌∷◌, ◌++◌, map}
 use native.Mathlib.Omega.{arith}
-use lib.Dec.{eqb, ltb}
+use lib.Dec.{ltb}
 use lib.ListN.{length, get_or, replicate, length-replicate, get_or-append}
 use lib.Seq.{get_or-append-add}
 use lib.IntN.{pos}
@@ -14,8 +14,8 @@ use Rattle.text.specs.Bytes.{Bytes}
 use Rattle.rules.specs.Choice.{choose}
 use Rattle.rules.specs.Statement.{Set, set_a, set_b, set_c}
 use Rattle.rules.specs.Grammar.{Kind, parameter, symbol, syslist, sysndx, sysect, unknown}
-use Rattle.rules.specs.Evaluate.{Value, number, string, Cell, own_cell, shared_cell, system_cell}
-use Rattle.deck.specs.Slots.{Slot, own, shared, list, index, section, DeckMacro, Deck, parameters, own_kinds_of, slot_kind, held}
+use Rattle.rules.specs.Evaluate.{number, string, Cell, own_cell, shared_cell, system_cell}
+use Rattle.deck.specs.Slots.{own, shared, DeckMacro, Deck, parameters, own_kinds_of, slot_kind, held}
 use Rattle.grammar.specs.Tokens.{kind_of}
 use Rattle.grammar.specs.Kinds.{number_of}
 use Rattle.deck_reading.specs.Reading.{kinds_at}

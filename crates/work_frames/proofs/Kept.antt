@@ -1,18 +1,17 @@
 -- A store to a local of one level changes that value and nothing else. Assumes nothing.
-use Prim.Native.Nat.{ℕ, zero, suc, ◌+◌, ◌*◌, ◌-◌, ◌≤◌, ◌<◌}
-use mathlib.Core.Path.{◌≡◌, refl, sym, ap, ◌∙◌}
-use mathlib.Core.List.{List, [], ◌∷◌, ◌++◌}
+use Prim.Native.Nat.{ℕ, ◌+◌, ◌*◌, ◌≤◌, ◌<◌}
+use mathlib.Core.Path.{◌≡◌, refl}
+use mathlib.Core.List.{List}
 use mathlib.Core.Logic.{◌⊎◌, inl, inr, ⊎_elim}
 use native.Mathlib.Omega.{arith}
-use lib.Dec.{eqb}
-use lib.ListN.{length, get_or, set, take, drop}
+use lib.ListN.{length, get_or, set}
 use Rattle.text.specs.Bytes.{Bytes}
 use Rattle.rules.specs.Statement.{Set, set_a}
 use Rattle.rules.specs.Evaluate.{Value}
-use Rattle.deck.specs.Slots.{DeckMacro, Deck}
+use Rattle.deck.specs.Slots.{Deck}
 use Rattle.lent.specs.Splice.{splice}
 use Rattle.work_cells.specs.Cells.{cell_size, cell_of, value_in, values_from}
-use Rattle.work_cells.proofs.Kept.{Apart, values-apart, values-kept}
+use Rattle.work_cells.proofs.Kept.{values-apart, values-kept}
 use Rattle.work_frames.specs.Layout.{local_cell, global_cell}
 use Rattle.work_frames.specs.Frames.{shared_in}
 

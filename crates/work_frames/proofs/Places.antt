@@ -1,6 +1,6 @@
 -- What the code finds in the index. Assumes nothing.
 use Prim.Native.Nat.{ℕ, ◌+◌, ◌*◌, ◌≤◌, ◌<◌}
-use mathlib.Core.Path.{◌≡◌, refl, sym, ap, ◌∙◌}
+use mathlib.Core.Path.{◌≡◌, sym, ap, ◌∙◌}
 use mathlib.Core.Bool.{Bool, true, false, true≢false}
 use native.Mathlib.Omega.{arith}
 use lib.Dec.{ltb}
@@ -16,7 +16,6 @@ use Rattle.work_frames.specs.Frames.{index_in}
 use Rattle.work_frames.specs.Indexed.{four_at, first_in, count_in, found_in, macros_in, title_rows, parameter_count_in, locals_in, frame_in}
 use Rattle.expand_levels.specs.declared.Level.{Level}
 use Rattle.work_frames.specs.declared.Found.{Found}
-use Rattle.work_frames.specs.declared.Frame.{Frame}
 use Rattle.work_frames.specs.declared.Found.TheVariants.{At, Behind}
 
 module _ (w index : Bytes) (cut : index ≡ part_of w lines_at index_size) where

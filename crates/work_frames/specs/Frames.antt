@@ -1,17 +1,13 @@
 -- What the workspace and a level's numbers stand for: levels, globals and cells of the rules.
-use Rattle.std.specs.Prelude.{ℕ, zero, suc, ◌+◌, ◌*◌, ◌-◌, ◌≡◌, Bool, List, [], ◌∷◌, ◌++◌, map, eqb, leb, ltb, length, get_or, take, drop, pos}
-use Rattle.std.proofs.Math.Option.{Option, some}
+use Rattle.std.specs.Prelude.{ℕ, zero, suc, ◌+◌, ◌*◌, ◌-◌, ◌≡◌, List, [], ◌∷◌, ◌++◌, eqb, length, get_or, take, drop}
 use Rattle.text.specs.Bytes.{Bytes}
 use Rattle.rules.specs.Choice.{choose}
 use Rattle.rules.specs.Fields.{lines_of}
-use Rattle.rules.specs.Statement.{Set, set_a}
-use Rattle.rules.specs.Evaluate.{Value, number, string, Cell}
-use Rattle.rules.specs.Machine.{Machine, State, output_of, runs}
+use Rattle.rules.specs.Evaluate.{Value, string, Cell}
+use Rattle.rules.specs.Machine.{State, output_of}
 use Rattle.rules.specs.Machine.{Level as Running}
 use Rattle.deck.specs.Slots.{Slot, DeckMacro, Deck, no_macro, parameters, held}
-use Rattle.deck.specs.Coders.{lex_of}
-use Rattle.lent.specs.Splice.{splice}
-use Rattle.spans.specs.Spans.{part_of, spanned}
+use Rattle.spans.specs.Spans.{part_of}
 use Rattle.work_cells.specs.Cells.{values_from}
 use Rattle.expand_levels.specs.Stands.{Texts, level_of}
 use Rattle.expand_levels.specs.declared.Level.{Level}

@@ -1,10 +1,10 @@
 -- What evaluation may assume of the workspace: the one link between the cells that a field's bytes stand for and what the code reads.
-use Rattle.std.specs.Prelude.{ℕ, ◌+◌, ◌*◌, ◌-◌, ◌≤◌, ◌<◌, ◌≡◌, Bool, map, eqb, ltb, get_or, pos}
+use Rattle.std.specs.Prelude.{ℕ, ◌+◌, ◌*◌, ◌-◌, ◌≤◌, ◌<◌, ◌≡◌, map, eqb, ltb, get_or, pos}
 use Rattle.text.specs.Bytes.{Bytes}
 use Rattle.rules.specs.Choice.{choose}
 use Rattle.rules.specs.Statement.{Set}
-use Rattle.rules.specs.Grammar.{Kind, parameter, symbol, syslist, sysndx, sysect}
-use Rattle.rules.specs.Evaluate.{Value, number, string, Cell}
+use Rattle.rules.specs.Grammar.{parameter, symbol, syslist, sysndx, sysect}
+use Rattle.rules.specs.Evaluate.{number, string, Cell}
 use Rattle.deck.specs.Slots.{Slot, own, shared, list, index, section}
 use Rattle.grammar.specs.Tokens.{kind_of}
 use Rattle.grammar.specs.Kinds.{number_of}

@@ -1,5 +1,5 @@
 -- What the test of good form leaves in the index: where each line of each macro stands in the deck, what a call needs to know of a macro, and the titles.
-use Rattle.std.specs.Prelude.{ℕ, ◌+◌, ◌*◌, ◌≤◌, ◌<◌, ◌≡◌, map, ltb, length, get_or, take, drop}
+use Rattle.std.specs.Prelude.{ℕ, ◌+◌, ◌*◌, ◌<◌, ◌≡◌, map, ltb, length, get_or}
 use Rattle.text.specs.Bytes.{Bytes}
 use Rattle.rules.specs.Choice.{choose}
 use Rattle.deck.specs.Slots.{DeckMacro, Deck, no_macro, no_line, parameters}

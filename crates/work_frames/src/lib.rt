@@ -1,4 +1,6 @@
 // Where things stand in the workspace.
+#![tactic(auto)]
+
 ghost use Rattle.std.specs.Prelude.{◌≡◌, ℕ, ◌<◌, ◌^◌};
 ghost use Rattle.work_frames.specs.Layout.{level_at};
 ghost use Rattle.work_frames.specs.Frames.{index_in};
@@ -6,7 +8,7 @@ ghost use Rattle.work_frames.specs.Indexed.{four_at, found_in, macros_in, title_
 
 // What evaluation needs to know of the level that runs: how deep it is, how many parameters its macro has, its call's number, and where the deck has the
 // kinds of its locals.
-#[derive(Drop)]
+#[derive(Clone, Copy)]
 pub struct Frame {
     pub depth: u16,
     pub params: u16,
@@ -23,7 +25,7 @@ pub fn level_at(depth: usize) -> usize
 }
 
 // Where a line stands in the deck, or that its macro has no such line.
-#[derive(Drop)]
+#[derive(Clone, Copy)]
 pub enum Found {
     At(usize),
     Behind,

@@ -1,0 +1,15 @@
+use Prim.Native.Nat.{◌+◌, ◌-◌, ◌≤◌}
+use mathlib.Core.Path.{◌≡◌}
+use mathlib.Core.Bool.{true}
+use lib.ListN.{length}
+use Rattle.rules.specs.Lexemes.{lexed}
+use Rattle.rules.specs.Calls.{divided}
+use Rattle.operands.proofs.Rest.{rest_from}
+use Rattle.call_operands.specs.Calling.{leading}
+use Rattle.call_operands.proofs.positional_count.Given as goal
+
+abbrev pub invariant-loop-at : goal.invariant-loop-at
+invariant-loop-at l = (l.count ≤ l.at) × (l.at ≤ length l.operand + 1) × (leading (divided (lexed true l.operand)) ≡ l.count + leading (rest_from l.operand l.at))
+
+abbrev pub decreases-loop-at : goal.decreases-loop-at
+decreases-loop-at l = length l.operand + 1 - l.at

@@ -1,0 +1,11 @@
+-- `then_string` meets its contract. Assumes nothing.
+use Rattle.deck_reading.specs.Reading.{reads, run_from, get_from}
+use Rattle.deck_reading.proofs.then_string.Goals as goal
+
+pub returns-in-To : goal.returns-in-To
+unfolding run_from get_from
+returns-in-To c = rw c.in-To.is c.read_string.ensures
+
+pub returns-in-Bad : goal.returns-in-Bad
+unfolding run_from get_from reads
+returns-in-Bad c = rw c.in-Bad.is

@@ -1,0 +1,6 @@
+-- `is_formed_line` meets its contract. Assumes nothing.
+use Rattle.good_forms.proofs.Forms.{line-formed}
+use Rattle.good_forms.proofs.is_formed_line.Goals as goal
+
+pub returns : goal.returns
+returns c = line-formed _ _ _ _ _ c.number_of.ensures _ _ _ c.run_at.ensures c.run_at-2.ensures c.run_at-3.ensures c.is_formed.ensures

@@ -1,0 +1,16 @@
+-- `comparing::greater` meets its contract. Assumes nothing.
+use mathlib.Core.Path.{sym, ap}
+use Rattle.value_comparisons.specs.Orders.{order_of, is_greater}
+use Rattle.value_comparisons.proofs.greater.Goals as goal
+
+pub returns-in-Less : goal.returns-in-Less
+unfolding order_of is_greater
+returns-in-Less c = sym (ap (λ o. is_greater (order_of o)) c.in-Less.is)
+
+pub returns-in-Equal : goal.returns-in-Equal
+unfolding order_of is_greater
+returns-in-Equal c = sym (ap (λ o. is_greater (order_of o)) c.in-Equal.is)
+
+pub returns-in-Greater : goal.returns-in-Greater
+unfolding order_of is_greater
+returns-in-Greater c = sym (ap (λ o. is_greater (order_of o)) c.in-Greater.is)
