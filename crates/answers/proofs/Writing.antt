@@ -5,8 +5,8 @@ use native.Mathlib.Omega.{arith}
 use mathlib.Core.Path.{◌≡◌, refl, ap, sym, ◌∙◌}
 use mathlib.Core.List.{[], ◌∷◌, ◌++◌}
 use lib.Dec.{ltb}
-use lib.ListN.{length, set, take, drop, length-set, length-drop, length-append}
-use lib.Seq.{drop-cons, get_or-set_same, drop-set-lt, take_all}
+use lib.ListN.{length, set, drop, length-set, length-append}
+use lib.Seq.{drop-cons, get_or-set_same, drop-set-lt}
 use borrow.Author.Tests.{lt-ltb, le-ltb}
 use Rattle.text.specs.Bytes.{Bytes, bytes}
 use Rattle.rules.specs.Values.{decimal}
@@ -62,13 +62,6 @@ spaced-short n = let h = decimal-short n in omega (arith, h)
 
 pub as_long : (out : Bytes) (at : ℕ) (s : Bytes) {new : Bytes} → new ≡ splice out at s → length new ≡ length out
 as_long out at s e = ap length e ∙ splice-length out at s
-
--- the digits are the last bytes of 20
-pub digits-written : (out bytes : Bytes) (at from n : ℕ) {new : Bytes} → drop from bytes ≡ decimal_of n → length bytes ≡ 20 → new ≡ splice out at (take (20 - from) (drop from bytes)) → (new ≡ splice out at (decimal_of n)) × (at + (20 - from) ≡ at + length (decimal_of n))
-digits-written out bytes at from n e l f =
-    let size : length (drop from bytes) ≡ 20 - from = length-drop from bytes ∙ ap (λ (k : ℕ). k - from) l in
-    let all : take (20 - from) (drop from bytes) ≡ drop from bytes = take_all (20 - from) (drop from bytes) (omega (arith, size)) in
-    (f ∙ ap (splice out at) (all ∙ e), ap (λ (k : ℕ). at + k) (sym size ∙ ap length e))
 
 pub space-written : (out : Bytes) (at n : ℕ) → splice (set out at space) (at + 1) (decimal_of n) ≡ splice out at (spaced n)
 unfolding spaced

@@ -5,35 +5,23 @@ ghost use Rattle.std.specs.Prelude.{◌≡◌, ◌+◌, ◌≤◌, length, drop}
 ghost use Rattle.lent.specs.Splice.{splice};
 ghost use Rattle.answers.specs.Answers.{decimal_of, spaced, refused_answer, deck_answer};
 
-// A number's digits: those of `bytes` from `from` on.
-#[derive(Clone, Copy)]
-struct Digits {
-    bytes: [u8; 20],
-    from: usize,
-}
+// How many digits every number of 64 bits has at most.
+const DIGITS: usize = 20;
 
-// The digits of `n`.
-fn digits_of(n: usize) -> Digits
-    ensures { (drop result.from result.bytes ≡ decimal_of n) × ((result.from ≤ 20) × (length result.bytes ≡ 20)) }
+// The digits of `n` at the end of the buffer: where they start.
+fn put_digits(bytes: &mut [u8], n: usize) -> usize
+    requires { length bytes.old ≡ 20 }
+    ensures { (drop result bytes.new ≡ decimal_of n) × ((result ≤ 20) × (length bytes.new ≡ 20)) }
 {
-    let mut bytes = [0u8; 20];
     let mut rest = n;
-    let mut i: usize = 20;
-    while 0 < i {
-        i = i - 1;
-        bytes[i] = 48 + (rest % 10) as u8;
+    for i in (0..DIGITS).rev() {
+        bytes[i] = b'0' + (rest % 10) as u8;
         if rest < 10 {
-            return Digits {
-                bytes: bytes,
-                from: i,
-            };
+            return i;
         }
-        rest = rest / 10;
+        rest /= 10;
     }
-    Digits {
-        bytes: bytes,
-        from: i,
-    }
+    0
 }
 
 // The number `n` in decimal from `at` on, and the place behind it.
@@ -42,11 +30,11 @@ pub fn put_decimal(out: &mut [u8], at: usize, n: usize) -> usize
     ensures out_after { out.new ≡ splice out.old at (decimal_of n) }
     ensures value { result ≡ at + length (decimal_of n) }
 {
-    let digits = digits_of(n);
-    let bytes = digits.bytes;
-    let from = digits.from;
-    lent::copy(out, at, &bytes[from..]);
-    at + (20 - from)
+    let mut bytes = [0; DIGITS];
+    let from = put_digits(&mut bytes, n);
+    let digits = &bytes[from..];
+    lent::copy(out, at, digits);
+    at + digits.len()
 }
 
 // A space and the number `n` from `at` on, and the place behind them.

@@ -11,9 +11,8 @@ use Rattle.text.proofs.Same.{shorter}
 use Rattle.rules.specs.Choice.{choose}
 use Rattle.rules.proofs.Choices.{chosen, passed_over}
 use Rattle.batch.specs.declared.Number.{Number}
-use Rattle.batch.specs.declared.Number.TheVariants.{Is, Not}
+use Rattle.std.specs.Prelude.{Option, Some, None}
 use Rattle.batch.specs.declared.Pair.{Pair}
-use Rattle.batch.specs.declared.Pair.TheVariants.{Both, Neither}
 use Rattle.batch.specs.declared.Case.{Case}
 use Rattle.batch.specs.declared.Case.TheVariants.{Found, End, Broken}
 use Rattle.rules.specs.Lexemes.{space}
@@ -24,32 +23,32 @@ use Rattle.batch.proofs.Numbers.{Ahead, number-ahead}
 -- ---- two numbers
 
 module _ (stop : ℕ) (input : Bytes) (at : ℕ) where
-  pub pair-both : {first second middle next : ℕ} → number_at space input at ≡ Is first middle → number_at stop input middle ≡ Is second next → pair_at stop input at ≡ Both first second next
+  pub pair-both : {first second middle next : ℕ} → number_at space input at ≡ Some (record { value = first; next = middle }) → number_at stop input middle ≡ Some (record { value = second; next = next }) → pair_at stop input at ≡ Some (record { first = first; second = second; next = next })
   unfolding pair_at then_second second_to
   pair-both {first = a} e f = ap (then_second stop input) e ∙ ap (second_to a) f
 
-  pub pair_one : {first middle : ℕ} → number_at space input at ≡ Is first middle → number_at stop input middle ≡ Not → pair_at stop input at ≡ Neither
+  pub pair_one : {first middle : ℕ} → number_at space input at ≡ Some (record { value = first; next = middle }) → number_at stop input middle ≡ None → pair_at stop input at ≡ None
   unfolding pair_at then_second second_to
   pair_one {first = a} e f = ap (then_second stop input) e ∙ ap (second_to a) f
 
-  pub pair-none : number_at space input at ≡ Not → pair_at stop input at ≡ Neither
+  pub pair-none : number_at space input at ≡ None → pair_at stop input at ≡ None
   unfolding pair_at then_second
   pair-none e = ap (then_second stop input) e
 
 -- two numbers end in the input
-abbrev pub AheadBoth : Bytes → ℕ → Pair → Type 0
-AheadBoth input at (Both first second next) = (at < next) × (next ≤ length input)
-AheadBoth input at Neither = Unit
+abbrev pub AheadBoth : Bytes → ℕ → Option Pair → Type 0
+AheadBoth input at (Some r) = (at < r.next) × (r.next ≤ length input)
+AheadBoth input at None = Unit
 
-second-ahead : (input : Bytes) (at first middle : ℕ) → at < middle → (m : Number) → Ahead input middle m → AheadBoth input at (second_to first m)
+second-ahead : (input : Bytes) (at first middle : ℕ) → at < middle → (m : Option Number) → Ahead input middle m → AheadBoth input at (second_to first m)
 unfolding second_to
-second-ahead input at first middle h (Is value next) a = (omega (arith, h, a.0), a.1)
-second-ahead input at first middle h Not a = tt
+second-ahead input at first middle h (Some p) a = (omega (arith, h, a.0), a.1)
+second-ahead input at first middle h None a = tt
 
-then-ahead : (stop : ℕ) (input : Bytes) (at : ℕ) → 0 < stop → (m : Number) → Ahead input at m → AheadBoth input at (then_second stop input m)
+then-ahead : (stop : ℕ) (input : Bytes) (at : ℕ) → 0 < stop → (m : Option Number) → Ahead input at m → AheadBoth input at (then_second stop input m)
 unfolding then_second
-then-ahead stop input at p (Is value next) a = second-ahead input at value next (omega (arith, a.0)) (number_at stop input next) (number-ahead stop input next p)
-then-ahead stop input at p Not a = tt
+then-ahead stop input at p (Some n) a = second-ahead input at n.value n.next (omega (arith, a.0)) (number_at stop input n.next) (number-ahead stop input n.next p)
+then-ahead stop input at p None a = tt
 
 pub pair-ahead : (stop : ℕ) (input : Bytes) (at : ℕ) → 0 < stop → AheadBoth input at (pair_at stop input at)
 unfolding pair_at
@@ -85,15 +84,15 @@ module _ (input : Bytes) (id blank start library program output workspace : ℕ)
 -- ---- the numbers of the first line
 
 module _ (input : Bytes) (id blank : ℕ) where
-  pub headed-laid : {library program next output workspace start : ℕ} → pair_at space input (blank + 1) ≡ Both library program next → pair_at newline input next ≡ Both output workspace start → headed input id blank ≡ laid_out input id blank start library program output workspace
+  pub headed-laid : {library program next output workspace start : ℕ} → pair_at space input (blank + 1) ≡ Some (record { first = library; second = program; next = next }) → pair_at newline input next ≡ Some (record { first = output; second = workspace; next = start }) → headed input id blank ≡ laid_out input id blank start library program output workspace
   unfolding headed with_sizes with_rooms
   headed-laid {library = l} {program = p} e f = ap (with_sizes input id blank) e ∙ ap (with_rooms input id blank l p) f
 
-  pub headed-no-rooms : {library program next : ℕ} → pair_at space input (blank + 1) ≡ Both library program next → pair_at newline input next ≡ Neither → headed input id blank ≡ Broken
+  pub headed-no-rooms : {library program next : ℕ} → pair_at space input (blank + 1) ≡ Some (record { first = library; second = program; next = next }) → pair_at newline input next ≡ None → headed input id blank ≡ Broken
   unfolding headed with_sizes with_rooms
   headed-no-rooms {library = l} {program = p} e f = ap (with_sizes input id blank) e ∙ ap (with_rooms input id blank l p) f
 
-  pub headed-no-sizes : pair_at space input (blank + 1) ≡ Neither → headed input id blank ≡ Broken
+  pub headed-no-sizes : pair_at space input (blank + 1) ≡ None → headed input id blank ≡ Broken
   unfolding headed with_sizes
   headed-no-sizes e = ap (with_sizes input id blank) e
 

@@ -8,8 +8,8 @@ use borrow.Author.Tests.{eqb-true, eqb-false, leb-true}
 use Rattle.text.specs.Bytes.{Bytes, bytes, same}
 use Rattle.rules.specs.Choice.{run}
 use Rattle.rules.proofs.Choices.{either}
+use Rattle.std.specs.Prelude.{Option, Some, None}
 use Rattle.batch.specs.declared.Pair.{Pair}
-use Rattle.batch.specs.declared.Pair.TheVariants.{Both, Neither}
 use Rattle.batch.specs.declared.Case.{Case}
 use Rattle.batch.specs.declared.Case.TheVariants.{Found, End, Broken}
 use Rattle.rules.specs.Lexemes.{space}
@@ -38,15 +38,15 @@ module _ (input : Bytes) (at id blank : ℕ) (ahead : at < id) (some : id < blan
       (ahead, some, h, omega arith, omega arith, omega arith, omega (arith, there)))
       (λ e. tt)))
 
-  rooms-inside : (library program next : ℕ) → blank < next → (p : Pair) → AheadBoth input next p → Inside input at (with_rooms input id blank library program p)
+  rooms-inside : (library program next : ℕ) → blank < next → (p : Option Pair) → AheadBoth input next p → Inside input at (with_rooms input id blank library program p)
   unfolding with_rooms
-  rooms-inside library program next h (Both output workspace start) a = laid-inside start library program output workspace (omega (arith, h, a.0)) a.1
-  rooms-inside library program next h Neither a = tt
+  rooms-inside library program next h (Some r) a = laid-inside r.next library program r.first r.second (omega (arith, h, a.0)) a.1
+  rooms-inside library program next h None a = tt
 
-  sizes-inside : (p : Pair) → AheadBoth input (blank + 1) p → Inside input at (with_sizes input id blank p)
+  sizes-inside : (p : Option Pair) → AheadBoth input (blank + 1) p → Inside input at (with_sizes input id blank p)
   unfolding with_sizes
-  sizes-inside (Both library program next) a = rooms-inside library program next (omega (arith, a.0)) (pair_at newline input next) (pair-ahead newline input next (omega arith))
-  sizes-inside Neither a = tt
+  sizes-inside (Some r) a = rooms-inside r.first r.second r.next (omega (arith, a.0)) (pair_at newline input r.next) (pair-ahead newline input r.next (omega arith))
+  sizes-inside None a = tt
 
   headed-inside : Inside input at (headed input id blank)
   unfolding headed

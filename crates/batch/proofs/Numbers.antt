@@ -17,7 +17,7 @@ use Rattle.rules.specs.Values.{spelt}
 use Rattle.rules.proofs.Choices.{by, chosen, passed_over, either, and_left, and_right}
 use Rattle.rules.proofs.Scanning.{run-end, run-stop}
 use Rattle.batch.specs.declared.Number.{Number}
-use Rattle.batch.specs.declared.Number.TheVariants.{Is, Not}
+use Rattle.std.specs.Prelude.{Option, Some, None}
 use Rattle.batch.specs.Format.{number_limit, ended_at, digits_of, number_at}
 
 -- a byte that is not 0 is in the input
@@ -40,7 +40,7 @@ spelt-grows n (c ∷ s) = let more = spelt-grows (n * 10 + (c - 48)) s in omega 
 
 module _ (stop : ℕ) (input : Bytes) (at : ℕ) where
   -- a number that starts at `at` and goes on at i, after n for its digits before
-  unfoldable pub onward : ℕ → ℕ → Number
+  unfoldable pub onward : ℕ → ℕ → Option Number
   onward n i = ended_at stop input at (i + run digit (drop i input)) (spelt n (digits_of (drop i input)))
 
   pub onward-starts : number_at stop input at ≡ onward 0 at
@@ -59,7 +59,7 @@ module _ (stop : ℕ) (input : Bytes) (at : ℕ) where
     unfolding onward
     onward-more h e = rw (drop-cons input i 0 h, add-one) (more n i (get_or input i 0) (drop (suc i) input) e)
 
-    pub onward-over : number_limit < n → onward n i ≡ Not
+    pub onward-over : number_limit < n → onward n i ≡ None
     unfolding onward ended_at
     onward-over h =
         let s = digits_of (drop i input) in
@@ -71,26 +71,26 @@ module _ (stop : ℕ) (input : Bytes) (at : ℕ) where
         (λ h. run-end digit input i (ltb-false i (length input) h))
 
     module _ (few : n ≤ number_limit) (none : digit (get_or input i 0) ≡ false) where
-      ends : onward n i ≡ choose (eqb i at) Not (choose (eqb (get_or input i 0) stop) (Is n (i + 1)) Not)
+      ends : onward n i ≡ choose (eqb i at) None (choose (eqb (get_or input i 0) stop) (Some (record { value = n; next = (i + 1) })) None)
       unfolding onward spelt ended_at
       ends =
           let s = stops none in
           let z : run digit (drop i input) ≡ 0 = omega (arith, s) in
           ap (λ m. ended_at stop input at (i + m) (spelt n (take m (drop i input)))) z ∙ (ap (λ m. ended_at stop input at m n) (add-zero i) ∙ passed_over _ _ (le-ltb number_limit n few))
 
-      pub onward-none : i ≡ at → onward n i ≡ Not
+      pub onward-none : i ≡ at → onward n i ≡ None
       onward-none e = ends ∙ chosen _ _ (eq-eqb i at e)
 
-      pub onward-other : (i ≡ at → ⊥) → (get_or input i 0 ≡ stop → ⊥) → onward n i ≡ Not
+      pub onward-other : (i ≡ at → ⊥) → (get_or input i 0 ≡ stop → ⊥) → onward n i ≡ None
       onward-other d o = ends ∙ (passed_over _ _ (ne_eqb i at d) ∙ passed_over _ _ (ne_eqb (get_or input i 0) stop o))
 
-      pub onward-is : (i ≡ at → ⊥) → get_or input i 0 ≡ stop → onward n i ≡ Is n (i + 1)
+      pub onward-is : (i ≡ at → ⊥) → get_or input i 0 ≡ stop → onward n i ≡ Some (record { value = n; next = (i + 1) })
       onward-is d e = ends ∙ (passed_over _ _ (ne_eqb i at d) ∙ chosen _ _ (eq-eqb (get_or input i 0) stop e))
 
 -- a number ends in the input, behind its first digit
-abbrev pub Ahead : Bytes → ℕ → Number → Type 0
-Ahead input at (Is value next) = (at + 1 < next) × (next ≤ length input)
-Ahead input at Not = Unit
+abbrev pub Ahead : Bytes → ℕ → Option Number → Type 0
+Ahead input at (Some p) = (at + 1 < p.next) × (p.next ≤ length input)
+Ahead input at None = Unit
 
 pub number-ahead : (stop : ℕ) (input : Bytes) (at : ℕ) → 0 < stop → Ahead input at (number_at stop input at)
 unfolding number_at ended_at

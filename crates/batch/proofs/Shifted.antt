@@ -9,9 +9,8 @@ use Rattle.rules.specs.Lexemes.{space}
 use Rattle.rules.specs.Fields.{newline}
 use Rattle.rules.proofs.Choices.{by, into}
 use Rattle.batch.specs.declared.Number.{Number}
-use Rattle.batch.specs.declared.Number.TheVariants.{Is, Not}
+use Rattle.std.specs.Prelude.{Option, Some, None}
 use Rattle.batch.specs.declared.Pair.{Pair}
-use Rattle.batch.specs.declared.Pair.TheVariants.{Both, Neither}
 use Rattle.batch.specs.declared.Case.{Case}
 use Rattle.batch.specs.declared.Case.TheVariants.{Found, End, Broken}
 use Rattle.batch.specs.Format.{is_printable, id_end, number_limit, ended_at, digits_of, number_at, second_to, then_second, pair_at, laid_out, with_rooms, with_sizes, headed, case_at}
@@ -31,13 +30,13 @@ moved k (Found id blank library program stop next output workspace) = Found (k +
 moved k End = End
 moved k Broken = Broken
 
-moved_number : ℕ → Number → Number
-moved_number k (Is value next) = Is value (k + next)
-moved_number k Not = Not
+moved_number : ℕ → Option Number → Option Number
+moved_number k (Some p) = Some (record { value = p.value; next = k + p.next })
+moved_number k None = None
 
-moved_pair : ℕ → Pair → Pair
-moved_pair k (Both first second next) = Both first second (k + next)
-moved_pair k Neither = Neither
+moved_pair : ℕ → Option Pair → Option Pair
+moved_pair k (Some r) = Some (record { first = r.first; second = r.second; next = k + r.next })
+moved_pair k None = None
 
 module _ (k : ℕ) (input : Bytes) where
   abbrev later : Bytes
@@ -55,10 +54,10 @@ module _ (k : ℕ) (input : Bytes) where
       let t = ltb number_limit value in
       let u = eqb end at in
       let v = eqb (get_or later end 0) stop in
-      let tests : choose t Not (choose (eqb (k + end) (k + at)) Not (choose (eqb (get_or input (k + end) 0) stop) (Is value (k + end + 1)) Not)) ≡ choose t Not (choose u Not (choose v (Is value (k + (end + 1))) Not)) =
-      λ i. choose t Not (choose (eqb-shift k end at i) Not (choose (eqb (byte_there end i) stop) (Is value (add_assoc k end 1 i)) Not)) in
-      tests ∙ sym (into (moved_number k) t Not (choose u Not (choose v (Is value (end + 1)) Not))
-      ∙ ap (choose t Not) (into (moved_number k) u Not (choose v (Is value (end + 1)) Not) ∙ ap (choose u Not) (into (moved_number k) v (Is value (end + 1)) Not)))
+      let tests : choose t None (choose (eqb (k + end) (k + at)) None (choose (eqb (get_or input (k + end) 0) stop) (Some (record { value = value; next = (k + end + 1) })) None)) ≡ choose t None (choose u None (choose v (Some (record { value = value; next = (k + (end + 1)) })) None)) =
+      λ i. choose t None (choose (eqb-shift k end at i) None (choose (eqb (byte_there end i) stop) (Some (record { value = value; next = (add_assoc k end 1 i) })) None)) in
+      tests ∙ sym (into (moved_number k) t None (choose u None (choose v (Some (record { value = value; next = (end + 1) })) None))
+      ∙ ap (choose t None) (into (moved_number k) u None (choose v (Some (record { value = value; next = (end + 1) })) None) ∙ ap (choose u None) (into (moved_number k) v (Some (record { value = value; next = (end + 1) })) None)))
 
   number-shift : (stop at : ℕ) → number_at stop input (k + at) ≡ moved_number k (number_at stop later at)
   unfolding number_at
@@ -67,15 +66,15 @@ module _ (k : ℕ) (input : Bytes) where
       ∙ (ap (λ (n : ℕ). ended_at stop input (k + at) n (spelt 0 (digits_of (drop at later)))) (add_assoc k at (run digit (drop at later)))
       ∙ ended-shift stop at (at + run digit (drop at later)) (spelt 0 (digits_of (drop at later))))
 
-  second-shift : (first : ℕ) (m : Number) → second_to first (moved_number k m) ≡ moved_pair k (second_to first m)
+  second-shift : (first : ℕ) (m : Option Number) → second_to first (moved_number k m) ≡ moved_pair k (second_to first m)
   unfolding second_to moved_number moved_pair
-  second-shift first (Is value next) = refl
-  second-shift first Not = refl
+  second-shift first (Some p) = refl
+  second-shift first None = refl
 
-  then-shift : (stop : ℕ) (m : Number) → then_second stop input (moved_number k m) ≡ moved_pair k (then_second stop later m)
+  then-shift : (stop : ℕ) (m : Option Number) → then_second stop input (moved_number k m) ≡ moved_pair k (then_second stop later m)
   unfolding then_second moved_number moved_pair
-  then-shift stop (Is value next) = ap (second_to value) (number-shift stop next) ∙ second-shift value (number_at stop later next)
-  then-shift stop Not = refl
+  then-shift stop (Some p) = ap (second_to p.value) (number-shift stop p.next) ∙ second-shift p.value (number_at stop later p.next)
+  then-shift stop None = refl
 
   pair-shift : (stop at : ℕ) → pair_at stop input (k + at) ≡ moved_pair k (pair_at stop later at)
   unfolding pair_at
@@ -104,15 +103,15 @@ module _ (k : ℕ) (input : Bytes) where
         tests ∙ sym (into (moved k) t Broken (choose u Broken (choose v there Broken))
         ∙ ap (choose t Broken) (into (moved k) u Broken (choose v there Broken) ∙ ap (choose u Broken) (into (moved k) v there Broken)))
 
-    rooms-shift : (library program : ℕ) (p : Pair) → with_rooms input (k + id) (k + blank) library program (moved_pair k p) ≡ moved k (with_rooms later id blank library program p)
+    rooms-shift : (library program : ℕ) (p : Option Pair) → with_rooms input (k + id) (k + blank) library program (moved_pair k p) ≡ moved k (with_rooms later id blank library program p)
     unfolding with_rooms moved_pair
-    rooms-shift library program (Both output workspace start) = laid-shift start library program output workspace
-    rooms-shift library program Neither = refl
+    rooms-shift library program (Some r) = laid-shift r.next library program r.first r.second
+    rooms-shift library program None = refl
 
-    sizes-shift : (p : Pair) → with_sizes input (k + id) (k + blank) (moved_pair k p) ≡ moved k (with_sizes later id blank p)
+    sizes-shift : (p : Option Pair) → with_sizes input (k + id) (k + blank) (moved_pair k p) ≡ moved k (with_sizes later id blank p)
     unfolding with_sizes moved_pair
-    sizes-shift (Both library program next) = ap (with_rooms input (k + id) (k + blank) library program) (pair-shift newline next) ∙ rooms-shift library program (pair_at newline later next)
-    sizes-shift Neither = refl
+    sizes-shift (Some r) = ap (with_rooms input (k + id) (k + blank) r.first r.second) (pair-shift newline r.next) ∙ rooms-shift r.first r.second (pair_at newline later r.next)
+    sizes-shift None = refl
 
     headed-shift : headed input (k + id) (k + blank) ≡ moved k (headed later id blank)
     unfolding headed

@@ -15,9 +15,8 @@ use Rattle.rules.specs.Choice.{run}
 use Rattle.rules.specs.Values.{spelt}
 use Rattle.rules.proofs.Choices.{by, chosen, passed_over, either}
 use Rattle.batch.specs.declared.Number.{Number}
-use Rattle.batch.specs.declared.Number.TheVariants.{Is, Not}
+use Rattle.std.specs.Prelude.{Option, Some, None}
 use Rattle.batch.specs.declared.Pair.{Pair}
-use Rattle.batch.specs.declared.Pair.TheVariants.{Both, Neither}
 use Rattle.batch.specs.declared.Case.{Case}
 use Rattle.batch.specs.declared.Case.TheVariants.{Found, End, Broken}
 use Rattle.rules.specs.Lexemes.{space}
@@ -51,9 +50,9 @@ module _ (input more : Bytes) where
   read-there : (i : ℕ) → i < length input → get_or longer i 0 ≡ get_or input i 0
   read-there i h = get_or-append input more 0 i h
 
-  abbrev StaysNumber : Number → Number → Type 0
-  StaysNumber (Is value next) m = m ≡ Is value next
-  StaysNumber Not m = Unit
+  abbrev StaysNumber : Option Number → Option Number → Type 0
+  StaysNumber (Some p) m = m ≡ Some p
+  StaysNumber None m = Unit
 
   number_same : (stop at : ℕ) → at + run digit (drop at input) < length input → number_at stop longer at ≡ ended_at stop longer at (at + run digit (drop at input)) (spelt 0 (digits_of (drop at input)))
   unfolding number_at
@@ -81,20 +80,20 @@ module _ (input more : Bytes) where
       number_same stop at inside ∙ (passed_over _ _ few ∙ (passed_over _ _ some ∙ chosen _ _ (ap (λ (c : ℕ). eqb c stop) (read-there end inside) ∙ stops))))
       (λ e. tt)))
 
-  abbrev StaysPair : Pair → Pair → Type 0
-  StaysPair (Both first second next) p = p ≡ Both first second next
-  StaysPair Neither p = Unit
+  abbrev StaysPair : Option Pair → Option Pair → Type 0
+  StaysPair (Some r) p = p ≡ Some r
+  StaysPair None p = Unit
 
-  second-stays : (first : ℕ) (m n : Number) → StaysNumber m n → StaysPair (second_to first m) (second_to first n)
+  second-stays : (first : ℕ) (m n : Option Number) → StaysNumber m n → StaysPair (second_to first m) (second_to first n)
   unfolding second_to
-  second-stays first (Is value next) n e = ap (second_to first) e
-  second-stays first Not n e = tt
+  second-stays first (Some p) n e = ap (second_to first) e
+  second-stays first None n e = tt
 
-  then-stays : (stop : ℕ) → 0 < stop → (m n : Number) → StaysNumber m n → StaysPair (then_second stop input m) (then_second stop longer n)
+  then-stays : (stop : ℕ) → 0 < stop → (m n : Option Number) → StaysNumber m n → StaysPair (then_second stop input m) (then_second stop longer n)
   unfolding then_second
-  then-stays stop p (Is value next) n e =
-      subst (λ (k : Number). StaysPair (second_to value (number_at stop input next)) (then_second stop longer k)) (sym e) (second-stays value (number_at stop input next) (number_at stop longer next) (number-stays stop next p))
-  then-stays stop p Not n e = tt
+  then-stays stop p (Some m) n e =
+      subst (λ (k : Option Number). StaysPair (second_to m.value (number_at stop input m.next)) (then_second stop longer k)) (sym e) (second-stays m.value (number_at stop input m.next) (number_at stop longer m.next) (number-stays stop m.next p))
+  then-stays stop p None n e = tt
 
   pair-stays : (stop at : ℕ) → 0 < stop → StaysPair (pair_at stop input at) (pair_at stop longer at)
   unfolding pair_at
@@ -126,18 +125,18 @@ module _ (input more : Bytes) where
         passed_over _ _ (le-ltb _ _ has') ∙ (passed_over _ _ (le-ltb _ _ too') ∙ chosen _ _ (ap (λ (c : ℕ). eqb c newline) (read-there stop inside) ∙ g)))
         (λ e. tt)))
 
-    rooms-stay : (library program : ℕ) (p q : Pair) → StaysPair p q → Stays (with_rooms input id blank library program p) (with_rooms longer id blank library program q)
+    rooms-stay : (library program : ℕ) (p q : Option Pair) → StaysPair p q → Stays (with_rooms input id blank library program p) (with_rooms longer id blank library program q)
     unfolding with_rooms
-    rooms-stay library program (Both output workspace start) q e =
-        subst (λ (k : Pair). Stays (laid_out input id blank start library program output workspace) (with_rooms longer id blank library program k)) (sym e) (laid-stays start library program output workspace)
-    rooms-stay library program Neither q e = tt
+    rooms-stay library program (Some r) q e =
+        subst (λ (k : Option Pair). Stays (laid_out input id blank r.next library program r.first r.second) (with_rooms longer id blank library program k)) (sym e) (laid-stays r.next library program r.first r.second)
+    rooms-stay library program None q e = tt
 
-    sizes-stay : (p q : Pair) → StaysPair p q → Stays (with_sizes input id blank p) (with_sizes longer id blank q)
+    sizes-stay : (p q : Option Pair) → StaysPair p q → Stays (with_sizes input id blank p) (with_sizes longer id blank q)
     unfolding with_sizes
-    sizes-stay (Both library program next) q e =
-        subst (λ (k : Pair). Stays (with_rooms input id blank library program (pair_at newline input next)) (with_sizes longer id blank k)) (sym e)
-        (rooms-stay library program (pair_at newline input next) (pair_at newline longer next) (pair-stays newline next (omega arith)))
-    sizes-stay Neither q e = tt
+    sizes-stay (Some r) q e =
+        subst (λ (k : Option Pair). Stays (with_rooms input id blank r.first r.second (pair_at newline input r.next)) (with_sizes longer id blank k)) (sym e)
+        (rooms-stay r.first r.second (pair_at newline input r.next) (pair_at newline longer r.next) (pair-stays newline r.next (omega arith)))
+    sizes-stay None q e = tt
 
     headed-stays : Stays (headed input id blank) (headed longer id blank)
     unfolding headed

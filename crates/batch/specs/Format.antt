@@ -7,9 +7,8 @@ use Rattle.rules.specs.Lexemes.{space}
 use Rattle.rules.specs.Fields.{newline}
 use Rattle.rules.specs.Values.{spelt}
 use Rattle.batch.specs.declared.Number.{Number}
-use Rattle.batch.specs.declared.Number.TheVariants.{Is, Not}
+use Rattle.std.specs.Prelude.{Option, Some, None}
 use Rattle.batch.specs.declared.Pair.{Pair}
-use Rattle.batch.specs.declared.Pair.TheVariants.{Both, Neither}
 use Rattle.batch.specs.declared.Case.{Case}
 use Rattle.batch.specs.declared.Case.TheVariants.{Found, End, Broken}
 
@@ -25,27 +24,27 @@ abbrev pub number_limit : ℕ
 number_limit = 999999999999999999
 
 -- the number `value`, whose digits stand from `at` to `end`, where the byte `stop` has to stand
-unfoldable pub ended_at : ℕ → Bytes → ℕ → ℕ → ℕ → Number
+unfoldable pub ended_at : ℕ → Bytes → ℕ → ℕ → ℕ → Option Number
 ended_at stop input at end value =
-    choose (ltb number_limit value) Not (choose (eqb end at) Not (choose (eqb (get_or input end 0) stop) (Is value (end + 1)) Not))
+    choose (ltb number_limit value) None (choose (eqb end at) None (choose (eqb (get_or input end 0) stop) (Some (record { value = value; next = (end + 1) })) None))
 
 -- the digits that stand first
 abbrev pub digits_of : Bytes → Bytes
 digits_of s = take (run digit s) s
 
-unfoldable pub number_at : ℕ → Bytes → ℕ → Number
+unfoldable pub number_at : ℕ → Bytes → ℕ → Option Number
 number_at stop input at = ended_at stop input at (at + run digit (drop at input)) (spelt 0 (digits_of (drop at input)))
 
-unfoldable pub second_to : ℕ → Number → Pair
-second_to first (Is value next) = Both first value next
-second_to first Not = Neither
+unfoldable pub second_to : ℕ → Option Number → Option Pair
+second_to first (Some p) = Some (record { first = first; second = p.value; next = p.next })
+second_to first None = None
 
-unfoldable pub then_second : ℕ → Bytes → Number → Pair
-then_second stop input (Is value next) = second_to value (number_at stop input next)
-then_second stop input Not = Neither
+unfoldable pub then_second : ℕ → Bytes → Option Number → Option Pair
+then_second stop input (Some p) = second_to p.value (number_at stop input p.next)
+then_second stop input None = None
 
 -- two numbers with a space between them
-unfoldable pub pair_at : ℕ → Bytes → ℕ → Pair
+unfoldable pub pair_at : ℕ → Bytes → ℕ → Option Pair
 pair_at stop input at = then_second stop input (number_at space input at)
 
 -- "<the library's bytes><the program's bytes>\n": "the counts say where they end. One newline follows the program's bytes"
@@ -57,13 +56,13 @@ laid_out input id blank start library program output workspace =
     (choose (ltb (length input - middle) program) Broken
     (choose (eqb (get_or input stop 0) newline) (Found id blank start middle stop (stop + 1) output workspace) Broken))
 
-unfoldable pub with_rooms : Bytes → ℕ → ℕ → ℕ → ℕ → Pair → Case
-with_rooms input id blank library program (Both output workspace start) = laid_out input id blank start library program output workspace
-with_rooms input id blank library program Neither = Broken
+unfoldable pub with_rooms : Bytes → ℕ → ℕ → ℕ → ℕ → Option Pair → Case
+with_rooms input id blank library program (Some r) = laid_out input id blank r.next library program r.first r.second
+with_rooms input id blank library program None = Broken
 
-unfoldable pub with_sizes : Bytes → ℕ → ℕ → Pair → Case
-with_sizes input id blank (Both library program next) = with_rooms input id blank library program (pair_at newline input next)
-with_sizes input id blank Neither = Broken
+unfoldable pub with_sizes : Bytes → ℕ → ℕ → Option Pair → Case
+with_sizes input id blank (Some r) = with_rooms input id blank r.first r.second (pair_at newline input r.next)
+with_sizes input id blank None = Broken
 
 -- "<library bytes> <program bytes> <output length> <workspace length>\n", behind an id and its space
 unfoldable pub headed : Bytes → ℕ → ℕ → Case

@@ -5,27 +5,24 @@ ghost use Rattle.std.specs.Prelude.{◌≡◌, ◌+◌, ◌-◌, ◌≤◌, ◌<
 ghost use Rattle.lent.specs.Splice.{splice};
 ghost use Rattle.batch.specs.Format.{is_printable, id_end, number_at, pair_at, laid_out, headed, case_at};
 
-// A number, and the place behind the byte that ends it; or no number.
+// A number, and the place behind the byte that ends it.
 #[derive(Clone, Copy)]
-enum Number {
-    Is { value: usize, next: usize },
-    Not,
+struct Number {
+    value: usize,
+    next: usize,
 }
 
-// Two numbers, and the place behind them; or not both.
+// Two numbers, and the place behind them.
 #[derive(Clone, Copy)]
-enum Pair {
-    Both {
-        first: usize,
-        second: usize,
-        next: usize,
-    },
-    Neither,
+struct Pair {
+    first: usize,
+    second: usize,
+    next: usize,
 }
 
 // What stands at a place of a batch: a case, the batch's end, or something that is no case.
 // A case's id stands from `id` to `blank`, its library from `library` to `program`, its program from there to `stop`;
-// the next case stands at `next`.
+// the next case stands at `next`. Three words, since the driver goes on differently at each.
 #[derive(Clone, Copy)]
 pub enum Case {
     Found {
@@ -54,18 +51,11 @@ fn id_end(input: &[u8], at: usize) -> usize
     ensures value { result ≡ id_end input.now at }
     ensures lower_bound { (at ≤ result) × (result ≤ at + (length input.now - at)) }
 {
-    let mut i = at;
-    while i < input.len() {
-        if !is_printable(input[i]) {
-            return i;
-        }
-        i += 1;
-    }
-    i
+    lent::run_end(input, at, is_printable)
 }
 
-// The decimal number at `at`, which the byte `stop` ends.
-fn number_at(input: &[u8], at: usize, stop: u8) -> Number
+// The decimal number at `at`, which the byte `stop` ends. A loop over what is read: it ends at the first byte that is no digit, and at the first number over the limit.
+fn number_at(input: &[u8], at: usize, stop: u8) -> Option<Number>
     requires { 0 < stop }
     ensures { result ≡ number_at stop input.now at }
 {
@@ -74,41 +64,34 @@ fn number_at(input: &[u8], at: usize, stop: u8) -> Number
     while chars::digit(lent::byte(input, i)) {
         n = n * 10 + (input[i] - 48) as usize;
         if 999999999999999999 < n {
-            return Number::Not;
+            return None;
         }
         i += 1;
     }
     if i == at {
-        return Number::Not;
+        return None;
     }
     if lent::byte(input, i) != stop {
-        return Number::Not;
+        return None;
     }
-    Number::Is {
+    Some(Number {
         value: n,
         next: i + 1,
-    }
+    })
 }
 
 // Two numbers at `at`: a space ends the first, the byte `stop` the second.
-fn pair_at(input: &[u8], at: usize, stop: u8) -> Pair
+fn pair_at(input: &[u8], at: usize, stop: u8) -> Option<Pair>
     requires { 0 < stop }
     ensures { result ≡ pair_at stop input.now at }
 {
-    match number_at(input, at, b' ') {
-        Number::Is { value, next } => match number_at(input, next, stop) {
-            Number::Is {
-                value: second,
-                next: end,
-            } => Pair::Both {
-                first: value,
-                second: second,
-                next: end,
-            },
-            Number::Not => Pair::Neither,
-        },
-        Number::Not => Pair::Neither,
-    }
+    let first = number_at(input, at, b' ')?;
+    let second = number_at(input, first.next, stop)?;
+    Some(Pair {
+        first: first.value,
+        second: second.value,
+        next: second.next,
+    })
 }
 
 // The case with these sizes, whose files start at `start`.
@@ -153,21 +136,22 @@ fn headed(input: &[u8], id: usize, blank: usize) -> Case
     requires { blank < length input.now }
     ensures { result ≡ headed input.now id blank }
 {
-    match pair_at(input, blank + 1, b' ') {
-        Pair::Both {
-            first,
-            second,
-            next,
-        } => match pair_at(input, next, b'\n') {
-            Pair::Both {
-                first: output,
-                second: workspace,
-                next: start,
-            } => { laid_out(input, id, blank, start, first, second, output, workspace) }
-            Pair::Neither => Case::Broken,
-        },
-        Pair::Neither => Case::Broken,
-    }
+    let Some(sizes) = pair_at(input, blank + 1, b' ') else {
+        return Case::Broken;
+    };
+    let Some(rooms) = pair_at(input, sizes.next, b'\n') else {
+        return Case::Broken;
+    };
+    laid_out(
+        input,
+        id,
+        blank,
+        rooms.next,
+        sizes.first,
+        sizes.second,
+        rooms.first,
+        rooms.second,
+    )
 }
 
 // What stands at `at`.
@@ -199,9 +183,7 @@ pub fn keep(buffer: &mut [u8], from: usize, end: usize)
     requires { (from ≤ end) × (end ≤ length buffer.old) }
     ensures { buffer.new ≡ splice buffer.old 0 (take (end - from) (drop from buffer.old)) }
 {
-    let mut i = 0;
-    while i < end - from {
+    for i in 0..end - from {
         buffer[i] = buffer[from + i];
-        i += 1;
     }
 }

@@ -12,7 +12,7 @@ use Rattle.text.specs.Characters.{letter, letter_or_digit}
 use Rattle.rules.specs.Choice.{choose, run, any}
 use Rattle.rules.specs.Lexemes.{period, lexed, is_name, sequence_start, is_sequence}
 use Rattle.rules.specs.Fields.{Fields, fields_of, lines_of, is_copied_remark, is_dropped_remark, is_remark, no_fields, statement_fields, is_ill_written}
-use Rattle.rules.specs.Statement.{Set, set_a, set_b, set_c, Statement, macro, mend, mexit, local, global, set, aif, ago, anop, actr, model, statement_of, condition_end, target_in, Does, passes, ends, exits, text, models, sets, branches_if, branches, counts, map_does, map_line, is_copied, Line, doing, model_of, says, read}
+use Rattle.rules.specs.Statement.{Set, Statement, macro, mend, mexit, local, global, set, aif, ago, anop, actr, model, statement_of, condition_end, target_in, Does, passes, ends, exits, text, models, sets, branches_if, branches, counts, map_does, map_line, is_copied, Line, doing, model_of, says, read}
 use Rattle.rules.specs.Library.{firsts, line_named}
 use Rattle.rules.specs.Faults.{target_behind, is_named_or_empty, are_fields_good}
 use Rattle.rules.specs.ByLines.{own_names, Reading}
@@ -22,13 +22,15 @@ use Rattle.rules.proofs.Lossless.{lexed-back}
 use Rattle.rules.proofs.ReadLines.{InSet, fields-held, written_in}
 use Rattle.rules.proofs.Accepted.{Stands, well-written, good-fields, Body, last, line as more}
 use Rattle.deck.specs.Coding.{two, put_all, list_of}
-use Rattle.deck.specs.Coders.{set_code, put_line_by, line}
+use Rattle.deck.specs.Coders.{text_code, put_line_by, line}
 use Rattle.deck.specs.Slots.{resolved, resolved_line}
 use Rattle.names.specs.Names.{names_in, slot_byte}
-use Rattle.forms.specs.Numbers.{does_number}
+use Rattle.kinds.specs.Kinds.{does_for}
+use Rattle.kinds.specs.declared.Does.{Does as Word}
+use Rattle.kinds.specs.declared.Does.TheVariants.{Passes, Text, BranchesIf, Branches}
 use Rattle.shapes.specs.declared.Shape.{Shape}
 use Rattle.shapes.specs.Shapes.{part, target_text, Spelt}
-use Rattle.writing.specs.Bytes.{line_bytes, target_of}
+use Rattle.writing.specs.Bytes.{does_code, behind_first, line_bytes, target_of}
 use Rattle.writing.proofs.Coded.{string-counted}
 use Rattle.writing.proofs.Lines.{line-written}
 use Rattle.bodies.specs.Lines.{target_by, kept_bytes, remark_bytes, codes_of, kept_of, fields_in, statement_in, line_in, lines_in, body_in}
@@ -88,21 +90,19 @@ aims l f model h t start is = either (λ (x : Line Bytes Bytes). Aims x.does t) 
 
 -- the number of a target matters only where the line is a branch
 module _ (body : Bytes) (ls : List Bytes) (b : ls ≡ lines_of body) (l name operation operand t : Bytes) where
-  abbrev bytes : ℕ → ℕ → Bytes
+  abbrev bytes : Word → ℕ → Bytes
   bytes does target = line_bytes does l target name operation operand
 
-  target-same : (d : Does Bytes) → Aims d t → bytes (does_number d) (target_by body (does_number d) t) ≡ bytes (does_number d) (target_of (map_does (λ u. line_named u ls) d))
-  unfolding does_number target_by target_of map_does choose set_code
+  target-same : (d : Does Bytes) → Aims d t → bytes (does_for d) (target_by body (does_for d) t) ≡ bytes (does_for d) (target_of (map_does (λ u. line_named u ls) d))
+  unfolding target_by target_of map_does
   target-same passes h = refl
   target-same ends h = refl
   target-same exits h = refl
   target-same (text s) h = refl
   target-same models h = refl
-  target-same (sets set_a) h = refl
-  target-same (sets set_b) h = refl
-  target-same (sets set_c) h = refl
-  target-same (branches_if u) h = λ i. bytes 5 (line_named (h i) (sym b i))
-  target-same (branches u) h = λ i. bytes 6 (line_named (h i) (sym b i))
+  target-same (sets k) h = refl
+  target-same (branches_if u) h = λ i. bytes BranchesIf (line_named (h i) (sym b i))
+  target-same (branches u) h = λ i. bytes Branches (line_named (h i) (sym b i))
   target-same counts h = refl
 
 -- a line as acceptance leaves it: bytes of the set, and good fields where it is no remark
@@ -130,19 +130,19 @@ module _ (r : Reading) (globals : List (Bytes × Set)) (own global shared : Byte
     unfolding resolved_line
     resolved-as x q = ap whole (sym q)
 
-    text-whole : remark_bytes 3 l ≡ whole (doing (text l))
-    unfolding remark_bytes line_bytes choose line put_line_by map_line map_does doing
-    text-whole = ap (λ (x : Bytes). 3 ∷ x) (sym (string-counted l))
+    text-whole : remark_bytes Text l ≡ whole (doing (text l))
+    unfolding remark_bytes line_bytes does_code behind_first line put_line_by map_line map_does doing
+    text-whole = ap (λ (x : Bytes). text_code ∷ x) (sym (string-counted l))
 
-    passes-whole : remark_bytes 0 l ≡ whole (doing passes)
-    unfolding remark_bytes line_bytes choose line put_line_by map_line map_does doing
+    passes-whole : remark_bytes Passes l ≡ whole (doing passes)
+    unfolding remark_bytes line_bytes does_code behind_first line put_line_by map_line map_does doing
     passes-whole = refl
 
-    copied-in : is_copied_remark l ≡ true → remark_bytes 3 l ≡ line.put (resolved_line r globals l)
+    copied-in : is_copied_remark l ≡ true → remark_bytes Text l ≡ line.put (resolved_line r globals l)
     unfolding read
     copied-in e = text-whole ∙ resolved-as (doing (text l)) (chosen _ _ e)
 
-    dropped-in : is_copied_remark l ≡ false → is_dropped_remark l ≡ true → remark_bytes 0 l ≡ line.put (resolved_line r globals l)
+    dropped-in : is_copied_remark l ≡ false → is_dropped_remark l ≡ true → remark_bytes Passes l ≡ line.put (resolved_line r globals l)
     unfolding read
     dropped-in e f = passes-whole ∙ resolved-as (doing passes) (passed_over _ _ e ∙ chosen _ _ f)
 
@@ -159,7 +159,7 @@ module _ (r : Reading) (globals : List (Bytes × Set)) (own global shared : Byte
       abbrev codes : Bytes
       codes = codes_of own global shared f.name f.operation f.operand
 
-      abbrev bytes_of : ℕ → ℕ → Bytes
+      abbrev bytes_of : Word → ℕ → Bytes
       bytes_of does target = line_bytes does l target (take k.name codes) (part codes k.operation k.gap) (part codes k.operand k.rest)
 
       reads : read l ≡ says l f st

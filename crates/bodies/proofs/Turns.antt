@@ -1,10 +1,10 @@
 -- The lines of a body written one behind another: what one more line adds, and where they end. Assumes nothing.
-use Prim.Native.Nat.{ℕ, ◌+◌, ◌-◌, ◌≤◌, ◌<◌}
+use Prim.Native.Nat.{ℕ, ◌+◌, ◌≤◌, ◌<◌}
 use native.Mathlib.Omega.{arith}
 use mathlib.Core.Path.{◌≡◌, refl, ap, sym, ◌∙◌}
 use mathlib.Core.Bool.{false, ◌||◌}
-use mathlib.Core.List.{[], ◌++◌}
-use lib.ListN.{length, take, drop, length-append}
+use mathlib.Core.List.{List, [], ◌∷◌, ◌++◌}
+use lib.ListN.{length, length-append}
 use Rattle.text.specs.Bytes.{Bytes}
 use Rattle.rules.specs.Choice.{any}
 use Rattle.rules.specs.Limits.{line_limit}
@@ -14,57 +14,53 @@ use Rattle.rules.proofs.ReadLines.{written_in}
 use Rattle.deck.specs.Coding.{two}
 use Rattle.lent.specs.Splice.{splice}
 use Rattle.lent.proofs.Writes.{splice-append}
-use Rattle.lines.specs.Ends.{line_end}
-use Rattle.lines.proofs.Found.{no-line}
-use Rattle.labels.proofs.Turns.{turn}
 use Rattle.writing.proofs.Writes.{both-written, two-length}
 use Rattle.bodies.specs.Lines.{line_in, lines_in, body_in}
 use Rattle.bodies.specs.Room.{Ready}
 
 module _ (own global shared body : Bytes) where
-  abbrev rest : ℕ → Bytes
-  rest next = lines_in own global shared body (lines_of (drop next body))
+  abbrev rest : List Bytes → Bytes
+  rest ls = lines_in own global shared body ls
 
-  module _ (next : ℕ) (h : length body ≤ next) where
-    none : rest next ≡ []
+  -- no line is left
+  module _ (left : List Bytes) (e : left ≡ []) where
+    none : rest left ≡ []
     unfolding lines_in
-    none = ap (lines_in own global shared body) (no-line body next h)
+    none = ap rest e
 
-    pub all_end : (to n : ℕ) → to + length (rest next) ≡ n → to ≡ n
-    all_end to n e = let z = ap length none in omega (arith, e, z)
+    pub all_end : (to n : ℕ) → to + length (rest left) ≡ n → to ≡ n
+    all_end to n q = let z = ap length none in omega (arith, q, z)
 
-    pub all-splice : (out all : Bytes) (to : ℕ) → splice out to (rest next) ≡ all → out ≡ all
+    pub all-splice : (out all : Bytes) (to : ℕ) → splice out to (rest left) ≡ all → out ≡ all
     unfolding splice
-    all-splice out all to e = sym (ap (splice out to) none) ∙ e
+    all-splice out all to q = sym (ap (splice out to) none) ∙ q
 
-  module _ (next end : ℕ) (h : next < length body) (e : end ≡ line_end body next) where
-    abbrev l : Bytes
-    l = take (end - next) (drop next body)
-
-    turned : rest next ≡ line_in own global shared body l ++ rest (end + 1)
+  -- the line l is the first that is left, and ls are the others
+  module _ (left : List Bytes) (l : Bytes) (ls : List Bytes) (e : left ≡ l ∷ ls) where
+    turned : rest left ≡ line_in own global shared body l ++ rest ls
     unfolding lines_in
-    turned = ap (lines_in own global shared body) (turn body next end h e)
+    turned = ap rest e
 
-    size : length (rest next) ≡ length (line_in own global shared body l) + length (rest (end + 1))
-    size = ap length turned ∙ length-append (line_in own global shared body l) (rest (end + 1))
+    size : length (rest left) ≡ length (line_in own global shared body l) + length (rest ls)
+    size = ap length turned ∙ length-append (line_in own global shared body l) (rest ls)
 
-    pub line-room : (to n m : ℕ) → to + length (rest next) ≡ n → n ≤ m → to + length (line_in own global shared body l) ≤ m
+    pub line-room : (to n m : ℕ) → to + length (rest left) ≡ n → n ≤ m → to + length (line_in own global shared body l) ≤ m
     line-room to n m q room = let z = size in omega (arith, q, z)
 
-    pub turn-size : (to to₂ n : ℕ) → to₂ ≡ to + length (line_in own global shared body l) → to + length (rest next) ≡ n → to₂ + length (rest (end + 1)) ≡ n
+    pub turn-size : (to to₂ n : ℕ) → to₂ ≡ to + length (line_in own global shared body l) → to + length (rest left) ≡ n → to₂ + length (rest ls) ≡ n
     turn-size to to₂ n f q = let z = size in omega (arith, q, z, f)
 
     pub turn-splice : (out new all : Bytes) (to to₂ : ℕ) → to₂ ≡ to + length (line_in own global shared body l) → new ≡ splice out to (line_in own global shared body l)
-        → splice out to (rest next) ≡ all → splice new to₂ (rest (end + 1)) ≡ all
+        → splice out to (rest left) ≡ all → splice new to₂ (rest ls) ≡ all
     turn-splice out new all to to₂ f w q =
-        (λ i. splice (w i) (f i) (rest (end + 1))) ∙ (splice-append out to (line_in own global shared body l) (rest (end + 1)) ∙ (ap (splice out to) (sym turned) ∙ q))
+        (λ i. splice (w i) (f i) (rest ls)) ∙ (splice-append out to (line_in own global shared body l) (rest ls) ∙ (ap (splice out to) (sym turned) ∙ q))
 
-    module _ (good : any is_ill_written (lines_of (drop next body)) ≡ false) where
-      both : (is_ill_written l || any is_ill_written (lines_of (drop (end + 1) body))) ≡ false
+    module _ (good : any is_ill_written left ≡ false) where
+      both : (is_ill_written l || any is_ill_written ls) ≡ false
       unfolding any
-      both = sym (ap (any is_ill_written) (turn body next end h e)) ∙ good
+      both = sym (ap (any is_ill_written) e) ∙ good
 
-      pub turn-good : any is_ill_written (lines_of (drop (end + 1) body)) ≡ false
+      pub turn-good : any is_ill_written ls ≡ false
       turn-good = or_right (is_ill_written l) _ both
 
       pub turn-ready : (code : Bytes) → line_limit ≤ length code → length (lines_of body) < 65536 → Ready l body code

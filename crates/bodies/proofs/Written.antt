@@ -3,26 +3,27 @@ use Prim.Native.Nat.{ℕ, suc, ◌+◌, ◌-◌, ◌≤◌, ◌<◌}
 use native.Mathlib.Nat.{sub-zero}
 use native.Mathlib.Omega.{arith}
 use mathlib.Core.Path.{◌≡◌, refl, ap, sym, ◌∙◌, subst}
-use mathlib.Core.Bool.{Bool, true, false, ◌&&◌, ◌||◌, and-true}
+use mathlib.Core.Bool.{Bool, true, false, ◌&&◌, and-true}
 use mathlib.Core.List.{List, [], ◌∷◌, ◌++◌}
 use lib.Dec.{eqb}
 use lib.ListN.{length, take, drop, get_or, length-append, length-drop}
 use lib.Seq.{take-append_seam}
 use borrow.Author.Tests.{eq-eqb, ne_eqb, eqb-true, eqb-false}
 use Rattle.text.specs.Bytes.{Bytes}
-use Rattle.text.specs.Words.{word_number}
 use Rattle.rules.specs.Choice.{passed}
 use Rattle.rules.specs.Lexemes.{Before, marked, after, is_sequence, enters, outside, field_start}
 use Rattle.rules.specs.Fields.{Fields, fields_of, lines_of, is_copied_remark, is_dropped_remark, starts_with, operand_end, ends_operand, holds_spaces}
-use Rattle.rules.specs.Statement.{statements, model, statement_of, says}
+use Rattle.rules.specs.Statement.{statement_of, says}
+use Rattle.std.specs.Prelude.{Option}
+use Rattle.kinds.specs.declared.Word.{Word}
+use Rattle.kinds.specs.declared.Does.{Does}
+use Rattle.kinds.specs.declared.Does.TheVariants.{Passes, Ends, Exits, Text, Models, BranchesIf, Branches, Counts, Sets}
+use Rattle.kinds.specs.Kinds.{statement_by}
 use Rattle.rules.specs.Library.{is_named, line_named}
 use Rattle.rules.proofs.Choices.{chosen, passed_over, by, either}
 use Rattle.rules.proofs.ReadLines.{InSet, fields-held}
 use Rattle.lent.specs.Splice.{splice}
 use Rattle.lent.proofs.Writes.{splice-whole, splice-length}
-use Rattle.lines.specs.Ends.{line_end}
-use Rattle.lines.proofs.Found.{no-line}
-use Rattle.labels.proofs.Turns.{turn}
 use Rattle.fields.specs.declared.Cuts.{Cuts as Places}
 use Rattle.fields.specs.Cuts.{in_run, run_end, operand_end_at, cuts_of, fields_by}
 use Rattle.fields.proofs.Cut.{fields-cut}
@@ -30,7 +31,7 @@ use Rattle.statements.proofs.Symbols.{run-within}
 use Rattle.names.specs.Names.{slot_byte}
 use Rattle.coding.specs.Coded.{field_code}
 use Rattle.targets.proofs.Coded.{start-coded, sequence-coded, slot-byte-high, slot-byte-ends, slot-byte-other}
-use Rattle.shapes.specs.declared.Codes.{Codes as Ends}
+use Rattle.shapes.specs.declared.Codes.{Codes}
 use Rattle.shapes.specs.declared.Shape.{Shape}
 use Rattle.shapes.specs.Shapes.{part, ends_of, shape_of, target_text, Spelt}
 use Rattle.shapes.proofs.Written.{code-short}
@@ -47,18 +48,13 @@ swapped a b = by (eqb b a) (λ e. eq-eqb a b (sym (eqb-true b a e)) ∙ sym e) (
 one_byte : (a k : ℕ) → eqb a k ≡ (eqb k a && true)
 one_byte a k = swapped a k ∙ sym (and-true (eqb k a))
 
-pub copied_is : (l : Bytes) → eqb (get_or l 0 0) 42 ≡ is_copied_remark l
-unfolding is_copied_remark starts_with
-copied_is [] = refl
-copied_is (a ∷ l) = one_byte a 42
-
 pub dropped-is : (l : Bytes) → (eqb (get_or l 0 0) 46 && eqb (get_or l 1 0) 42) ≡ is_dropped_remark l
 unfolding is_dropped_remark starts_with
 dropped-is [] = refl
 dropped-is (a ∷ []) = λ i. swapped a 46 i && false
 dropped-is (a ∷ (b ∷ l)) = λ i. swapped a 46 i && one_byte b 42 i
 
-pub remark-writable : (does : ℕ) (l out : Bytes) (at : ℕ) → length l < 65536 → at + length (remark_bytes does l) ≤ length out
+pub remark-writable : (does : Does) (l out : Bytes) (at : ℕ) → length l < 65536 → at + length (remark_bytes does l) ≤ length out
     → Writable l (record { does = does; name = 0; operation = 0; gap = 0; operand = 0; rest = 0; end = 0 }) (take (0 - 0) (drop 0 l)) 0 out at
 unfolding remark_bytes part
 remark-writable does l out at h room = record {
@@ -83,18 +79,17 @@ named-within s [] = omega arith
 named-within s (l ∷ ls) =
     let h = named-within s ls in either (λ (n : ℕ). n ≤ suc (length ls)) (is_named s l) (λ e. omega arith) (λ e. omega arith)
 
-pub target-counts : (body : Bytes) (does : ℕ) (t : Bytes) → length (lines_of body) < 65536 → target_by body does t < 65536
+pub target-counts : (body : Bytes) (does : Does) (t : Bytes) → length (lines_of body) < 65536 → target_by body does t < 65536
 unfolding target_by
-target-counts body does t h =
-    let w = named-within (drop 1 t) (lines_of body) in either (λ (n : ℕ). n < 65536) (eqb does 5 || eqb does 6) (λ e. omega arith) (λ e. omega arith)
-
-pub branch-target : (body : Bytes) (does : ℕ) (t : Bytes) {n : ℕ} → (eqb does 5 || eqb does 6) ≡ true → n ≡ line_named (drop 1 t) (lines_of body) → n ≡ target_by body does t
-unfolding target_by
-branch-target body does t e h = h ∙ sym (chosen _ _ e)
-
-pub other-target : (body : Bytes) (does : ℕ) (t : Bytes) → (eqb does 5 || eqb does 6) ≡ false → 0 ≡ target_by body does t
-unfolding target_by
-other-target body does t e = sym (passed_over _ _ e)
+target-counts body Passes t h = omega arith
+target-counts body Ends t h = omega arith
+target-counts body Exits t h = omega arith
+target-counts body Text t h = omega arith
+target-counts body Models t h = omega arith
+target-counts body BranchesIf t h = omega (arith, h, named-within (drop 1 t) (lines_of body))
+target-counts body Branches t h = omega (arith, h, named-within (drop 1 t) (lines_of body))
+target-counts body Counts t h = omega arith
+target-counts body (Sets k) t h = omega arith
 
 module _ (l body : Bytes) (k : Shape) (s out : Bytes) (at : ℕ) (h : Kept l body k s out at) (target : ℕ) (is : target ≡ target_by body k.does (part s k.rest k.end)) where
   pub kept-writable : Writable l k s target out at
@@ -175,9 +170,9 @@ module _ (own global shared : Bytes) where
         }
 
     -- the codes stand at the buffer's start, up to their last end
-    module _ (new : Bytes) (e : Ends) (written : new ≡ splice code 0 s) (is : e ≡ code_ends own global shared name operation operand) where
+    module _ (new : Bytes) (e : Codes) (written : new ≡ splice code 0 s) (is : e ≡ code_ends own global shared name operation operand) where
       pub last_end : e.operand ≡ length s
-      last_end = ap (λ (q : Ends). q.operand) is ∙ ends-length
+      last_end = ap (λ (q : Codes). q.operand) is ∙ ends-length
 
       pub end-within : e.operand ≤ length new
       end-within = omega (arith, last_end, codes-short, h.short, h.fits, ap length written ∙ splice-length code 0 s)
@@ -189,14 +184,14 @@ module _ (own global shared : Bytes) where
 
       pub ends-in : (e.operation ≤ e.operand) × (e.operand ≤ length (take e.operand new))
       ends-in =
-          let q : (code_ends own global shared name operation operand).operation ≡ e.operation = sym (ap (λ (q : Ends). q.operation) is) in
+          let q : (code_ends own global shared name operation operand).operation ≡ e.operation = sym (ap (λ (q : Codes). q.operation) is) in
           (omega (arith, ends-ordered, q, ends-length, last_end), omega (arith, ap length all_codes, last_end))
 
-      module _ (word : ℕ) (label : Bool) (k : Shape) (w : word ≡ word_number operation) (b : label ≡ is_sequence name)
-          (shape : k ≡ shape_of (get_or statements word model) label e (take e.operand new)) where
+      module _ (word : Option Word) (label : Bool) (k : Shape) (w : statement_by word ≡ statement_of operation) (b : label ≡ is_sequence name)
+          (shape : k ≡ shape_of (statement_by word) label e (take e.operand new)) where
         pub kept-is : k ≡ kept_of own global shared name operation operand
-        unfolding kept_of statement_of
-        kept-is = shape ∙ (λ i. shape_of (get_or statements (w i) model) (b i) (is i) (all_codes i))
+        unfolding kept_of
+        kept-is = shape ∙ (λ i. shape_of (w i) (b i) (is i) (all_codes i))
 
         pub kept-now : (out : Bytes) (at : ℕ) → at + length (fields_in own global shared body l name operation operand) ≤ length out → Kept l body k (take e.operand new) out at
         kept-now out at room =
@@ -293,23 +288,14 @@ module _ (l : Bytes) (c : Places) (is : c ≡ cuts_of l) where
 -- ---- the bytes of a line by what it is
 
 module _ (own global shared body l : Bytes) where
-  pub copied-bytes : is_copied_remark l ≡ true → line_in own global shared body l ≡ remark_bytes 3 l
+  pub copied-bytes : is_copied_remark l ≡ true → line_in own global shared body l ≡ remark_bytes Text l
   unfolding line_in
   copied-bytes e = chosen _ _ e
 
-  pub dropped-bytes : is_copied_remark l ≡ false → is_dropped_remark l ≡ true → line_in own global shared body l ≡ remark_bytes 0 l
+  pub dropped-bytes : is_copied_remark l ≡ false → is_dropped_remark l ≡ true → line_in own global shared body l ≡ remark_bytes Passes l
   unfolding line_in
   dropped-bytes e f = passed_over _ _ e ∙ chosen _ _ f
 
   pub statement-bytes : is_copied_remark l ≡ false → is_dropped_remark l ≡ false → line_in own global shared body l ≡ statement_in own global shared body l
   unfolding line_in
   statement-bytes e f = passed_over _ _ e ∙ passed_over _ _ f
-
--- ---- lines counted
-
-pub none_left : (lines : Bytes) (at n : ℕ) → length lines ≤ at → n ≡ n + length (lines_of (drop at lines))
-none_left lines at n h = let e = ap length (no-line lines at h) in omega (arith, e)
-
-pub one_more : (lines : Bytes) (at end n : ℕ) → at < length lines → end ≡ line_end lines at
-    → n + length (lines_of (drop at lines)) ≡ n + 1 + length (lines_of (drop (end + 1) lines))
-one_more lines at end n h e = let q = ap length (turn lines at end h e) in omega (arith, q)

@@ -1,6 +1,6 @@
 -- A body line's bytes in a deck, by the tables of names and the body's own bytes. That they are the deck's coding of the line is proofs/Coded.antt.
 -- Assumes nothing.
-use Rattle.std.specs.Prelude.{ℕ, true, false, ◌||◌, List, [], ◌∷◌, ◌++◌, eqb, length, drop}
+use Rattle.std.specs.Prelude.{ℕ, true, false, List, [], ◌∷◌, ◌++◌, length, drop}
 use Rattle.text.specs.Bytes.{Bytes}
 use Rattle.rules.specs.Choice.{choose}
 use Rattle.rules.specs.Lexemes.{is_sequence}
@@ -8,23 +8,32 @@ use Rattle.rules.specs.Fields.{fields_of, lines_of, is_copied_remark, is_dropped
 use Rattle.rules.specs.Statement.{statement_of}
 use Rattle.rules.specs.Library.{line_named}
 use Rattle.deck.specs.Coding.{two}
-use Rattle.deck.specs.Coders.{passes_code, text_code, branches_if_code, branches_code}
+use Rattle.kinds.specs.declared.Does.{Does}
+use Rattle.kinds.specs.declared.Does.TheVariants.{Passes, Ends, Exits, Text, Models, BranchesIf, Branches, Counts, Sets}
 use Rattle.coding.specs.Coded.{field_code}
-use Rattle.shapes.specs.declared.Codes.{Codes as Ends}
+use Rattle.shapes.specs.declared.Codes.{Codes}
 use Rattle.shapes.specs.declared.Shape.{Shape as Kept}
 use Rattle.shapes.specs.Shapes.{part, ends_of, shape_of}
 use Rattle.writing.specs.Bytes.{line_bytes, shape_bytes}
 
 -- the number of the line that a branch goes to, where the code of its target is `target`; 0 where the line is no branch
-unfoldable pub target_by : Bytes → ℕ → Bytes → ℕ
-target_by body does target = choose (eqb does branches_if_code || eqb does branches_code) (line_named (drop 1 target) (lines_of body)) 0
+unfoldable pub target_by : Bytes → Does → Bytes → ℕ
+target_by body Passes target = 0
+target_by body Ends target = 0
+target_by body Exits target = 0
+target_by body Text target = 0
+target_by body Models target = 0
+target_by body BranchesIf target = line_named (drop 1 target) (lines_of body)
+target_by body Branches target = line_named (drop 1 target) (lines_of body)
+target_by body Counts target = 0
+target_by body (Sets k) target = 0
 
 -- the bytes of a line by its shape over codes, its target among the body's lines
 unfoldable pub kept_bytes : Bytes → Bytes → Kept → Bytes → Bytes
 kept_bytes body l k s = shape_bytes l k s (target_by body k.does (part s k.rest k.end))
 
 -- a remark's bytes: it keeps no field
-unfoldable pub remark_bytes : ℕ → Bytes → Bytes
+unfoldable pub remark_bytes : Does → Bytes → Bytes
 remark_bytes does l = line_bytes does l 0 [] [] []
 
 module _ (own global shared : Bytes) where
@@ -32,7 +41,7 @@ module _ (own global shared : Bytes) where
   unfoldable pub codes_of : Bytes → Bytes → Bytes → Bytes
   codes_of name operation operand = field_code false own global shared name ++ (field_code false own global shared operation ++ field_code true own global shared operand)
 
-  unfoldable pub code_ends : Bytes → Bytes → Bytes → Ends
+  unfoldable pub code_ends : Bytes → Bytes → Bytes → Codes
   code_ends name operation operand = ends_of (field_code false own global shared name) (field_code false own global shared operation) (field_code true own global shared operand)
 
   -- what it does, and which of the codes it keeps
@@ -47,7 +56,7 @@ module _ (own global shared : Bytes) where
 
   -- a body line's bytes: a remark with `*` is used as it stands, one with `.*` passes
   unfoldable pub line_in : Bytes → Bytes → Bytes
-  line_in body l = choose (is_copied_remark l) (remark_bytes text_code l) (choose (is_dropped_remark l) (remark_bytes passes_code l) (statement_in body l))
+  line_in body l = choose (is_copied_remark l) (remark_bytes Text l) (choose (is_dropped_remark l) (remark_bytes Passes l) (statement_in body l))
 
   -- the bytes of lines in turn
   unfoldable pub lines_in : Bytes → List Bytes → Bytes

@@ -1,6 +1,5 @@
 -- One part of a field's codes, as its first bare `=` tells it. Assumes nothing.
-use Prim.Native.Nat.{ℕ, suc, ◌+◌, ◌-◌, ◌<◌}
-use native.Mathlib.Nat.{sub-zero}
+use Prim.Native.Nat.{ℕ, suc, ◌+◌, ◌<◌}
 use native.Mathlib.Omega.{arith}
 use mathlib.Core.Path.{◌≡◌, refl, ap, sym, ◌∙◌}
 use mathlib.Core.Bool.{Bool, true, false, ◌&&◌, ◌||◌, not, false≢true}
@@ -78,7 +77,7 @@ module _ (p : Bytes) (end : ℕ) (e : end ≡ 0 + cut_at equals p) where
   x = lexemes p
 
   abbrev written : Bytes
-  written = take (end - 0) p
+  written = take end p
 
   end_is : equals_at x ≡ end
   unfolding equals_at cut_at
@@ -90,7 +89,7 @@ module _ (p : Bytes) (end : ℕ) (e : end ≡ 0 + cut_at equals p) where
 
   name-is : name_of x ≡ map byte_of (lexemes written)
   unfolding name_of
-  name-is = ap (map (byte_of {R = ℕ})) (ap (λ (n : ℕ). take n x) (end_is ∙ sym (sub-zero end)) ∙ lexemes-take (end - 0) p)
+  name-is = ap (map (byte_of {R = ℕ})) (ap (λ (n : ℕ). take n x) end_is ∙ lexemes-take end p)
 
   value-is : value_of x ≡ lexemes (drop (end + 1) p)
   unfolding value_of

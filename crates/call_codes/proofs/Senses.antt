@@ -17,7 +17,7 @@ use Rattle.rules.proofs.Choices.{into, chosen, passed_over}
 use Rattle.value_sums.specs.Answers.{lex_by, toks_by}
 use Rattle.call_operands.specs.Calling.{name_of, value_of, is_keyword, named_among, may_stand, are_operands, leading, split_at}
 use Rattle.call_operands.proofs.Gathered.{gathered-is}
-use Rattle.call_operands.specs.declared.Divided.TheVariants.{Parts}
+use Rattle.std.specs.Prelude.{Some}
 use Rattle.call_codes.specs.Codes.{code_lex, lexemes, split_by}
 
 module _ {R S : Type 0} (f : R → S) where
@@ -164,7 +164,7 @@ module _ (held : ℕ → Cell) where
       pub not-operands : are_operands false (divided (lexemes code)) ≡ false → operands_of x ≡ none
       not-operands e = operands-are ∙ (chosen _ _ (pairs-alike ∙ p) ∙ passed_over _ _ (stand-alike ∙ e))
 
-      pub are-told : are_operands false (divided (lexemes code)) ≡ true → split_by held code (Parts (leading (divided (lexemes code)))) ≡ operands_of x
+      pub are-told : are_operands false (divided (lexemes code)) ≡ true → split_by held code (Some (leading (divided (lexemes code)))) ≡ operands_of x
       unfolding split_by
       are-told e =
           sym (operands-are ∙ (chosen _ _ (pairs-alike ∙ p) ∙ (chosen _ _ (stand-alike ∙ e) ∙ ap (λ (n : ℕ). some (split_at n (divided x))) leading-alike)))

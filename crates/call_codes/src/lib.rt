@@ -2,68 +2,88 @@
 #![tactic(auto)]
 
 ghost use Rattle.std.specs.Prelude.{◌≡◌, true, false, ℕ, ◌+◌, ◌-◌, ◌≤◌, length, drop};
-ghost use Rattle.text.specs.Bytes.{same};
-ghost use Rattle.rules.specs.Limits.{name_limit};
-ghost use Rattle.rules.specs.Lexemes.{byte_of, outside, is_name};
+ghost use Rattle.std.specs.Iterator.{YieldsFirstBy, item_count};
+ghost use Rattle.rules.specs.Lexemes.{byte_of, outside};
 ghost use Rattle.rules.specs.Calls.{pair_up, divided, has_equals, operands_of};
 ghost use Rattle.rules.specs.Evaluate.{Cell};
 ghost use Rattle.value_sums.specs.Answers.{toks_by};
-ghost use Rattle.call_operands.specs.Calling.{name_of, named_among, may_stand, are_operands, leading};
-ghost use Rattle.call_codes.specs.Codes.{code_lex, lexemes, cut_at, parts_from, split_by};
+ghost use Rattle.call_operands.specs.Cuts.{IsCut};
+ghost use Rattle.call_codes.specs.Codes.{code_lex, lexemes, cut_at, parts_left, split_by};
 
-// The text byte that a code byte is, 0 for any other lexeme.
+use call_operands::Divides;
+
+// The text byte that a code byte is; 0 for any other lexeme, as the rules' `byte_of` has it.
 fn text_of(b: u8) -> u8
     ensures { result ≡ byte_of (code_lex b) }
 {
     if b < 127 { b } else { 0 }
 }
 
-// The first place from `at` on where `c` stands outside quotes and parentheses, read as from a field's start; the field's end where it stands nowhere.
+// The first place from `at` on where `c` stands outside quotes and parentheses, read as from a field's start; the field's end where it stands nowhere, for what is cut there is the whole then.
 // (An attribute mark is told apart in a code, so a text byte is seen as if nothing followed it.)
 pub fn bare_at(code: &[u8], at: usize, c: u8) -> usize
     ensures value { result ≡ at + cut_at c (drop at code.now) }
     ensures lower_bound { (at ≤ result) × (result ≤ at + (length code.now - at)) }
 {
-    let mut i = at;
-    let mut seen = fields::Seen {
-        second: b' ',
-        first: b' ',
-        quoted: false,
-        depth: 0,
-    };
-    while i < code.len() {
+    let mut seen = fields::Seen::START;
+    for i in at..code.len() {
         let d = text_of(code[i]);
         if parts::is_bare(seen, d, 0, c) {
             return i;
         }
-        i += 1;
         seen = fields::seen_after(seen, d, 0);
     }
-    i
+    at.max(code.len())
 }
 
 // Whether the quotes and parentheses of the field pair.
 fn pairs_up(code: &[u8]) -> bool
     ensures { result ≡ pair_up outside (lexemes code.now) }
 {
-    let mut i = 0;
-    let mut seen = fields::Seen {
-        second: b' ',
-        first: b' ',
-        quoted: false,
-        depth: 0,
-    };
-    while i < code.len() {
-        let d = text_of(code[i]);
+    let mut seen = fields::Seen::START;
+    for &b in code {
+        let d = text_of(b);
         if parts::is_bare(seen, d, 0, b')') {
             return false;
         }
-        i += 1;
         seen = fields::seen_after(seen, d, 0);
     }
     let quoted = seen.quoted;
     let depth = seen.depth;
     !quoted & (depth == 0)
+}
+
+// The parts of a field that are still to come. An empty field has none; behind a comma there is always one, even if it is empty.
+#[derive(Clone, Copy)]
+pub struct Parts<'a> {
+    rest: Option<&'a [u8]>,
+}
+
+impl<'a> Parts<'a> {
+    // All parts of the field.
+    pub fn of(code: &'a [u8]) -> Parts<'a>
+        ensures { parts_left result ≡ divided (lexemes code.now) }
+    {
+        if code.is_empty() {
+            return Parts { rest: None };
+        }
+        Parts { rest: Some(code) }
+    }
+}
+
+impl<'a> Iterator for Parts<'a> {
+    type Item = &'a [u8];
+
+    ghost next_gives = { YieldsFirstBy (λ part. lexemes part.now) parts_left };
+
+    ghost remaining = { item_count parts_left };
+
+    fn next(&mut self) -> Option<&'a [u8]> {
+        let rest = self.rest?;
+        let end = bare_at(rest, 0, b',');
+        self.rest = rest.get(end + 1..);
+        Some(&rest[..end])
+    }
 }
 
 // Whether the part has `=` outside quotes and parentheses.
@@ -73,117 +93,43 @@ pub fn has_equals(part: &[u8]) -> bool
     bare_at(part, 0, b'=') < part.len()
 }
 
-// Whether the part's keyword has this name.
-fn is_named(part: &[u8], name: &[u8]) -> bool
-    requires { is_name name_limit name.now ≡ true }
-    ensures { result ≡ same (name_of (lexemes part.now)) name.now }
-{
-    let end = bare_at(part, 0, b'=');
-    lent::equal(&part[0..end], name)
+impl<'a> Divides<'a> for Parts<'a> {
+    ghost symbol = { ℕ };
+
+    ghost lexemes = { lexemes };
+
+    ghost left = { parts_left };
+
+    fn next_part(&mut self) -> Option<&'a [u8]>
+        ensures { YieldsFirstBy (λ part. lexemes part.now) parts_left self.old result self.new }
+    {
+        self.next()
+    }
+
+    fn equals_in(part: &[u8]) -> usize
+        ensures { IsCut lexemes part.now result }
+    {
+        bare_at(part, 0, b'=')
+    }
 }
 
-// Whether one of the parts from `at` on has a keyword of this name.
-fn named_among(code: &[u8], at: usize, name: &[u8]) -> bool
-    requires { is_name name_limit name.now ≡ true }
-    ensures { result ≡ named_among name.now (parts_from code.now at) }
-{
-    let mut i = at;
-    while i <= code.len() {
-        let end = bare_at(code, i, b',');
-        if is_named(&code[i..end], name) {
-            return true;
-        }
-        i = end + 1;
-    }
-    false
-}
-
-// Whether the part may stand before the parts from `rest` on, where `keywords` says that one stood before it.
-fn may_stand(code: &[u8], part: &[u8], rest: usize, keywords: bool) -> bool
-    ensures { result ≡ may_stand keywords (lexemes part.now) (parts_from code.now rest) }
-{
-    let end = bare_at(part, 0, b'=');
-    if end == part.len() {
-        return !keywords;
-    }
-    if !statements::is_name(&part[0..end], 7) {
-        return false;
-    }
-    if has_equals(&part[end + 1..]) {
-        return false;
-    }
-    !named_among(code, rest, &part[0..end])
-}
-
-// Whether the parts are positionals, and then keywords of which none is repeated.
-fn are_operands(code: &[u8]) -> bool
-    ensures { result ≡ are_operands false (divided (lexemes code.now)) }
-{
-    if code.len() == 0 {
-        return true;
-    }
-    let mut at = 0;
-    let mut keywords = false;
-    while at <= code.len() {
-        let end = bare_at(code, at, b',');
-        if !may_stand(code, &code[at..end], end + 1, keywords) {
-            return false;
-        }
-        keywords = has_equals(&code[at..end]);
-        at = end + 1;
-    }
-    true
-}
-
-// How many positionals stand first.
-fn positional_count(code: &[u8]) -> usize
-    ensures { result ≡ leading (divided (lexemes code.now)) }
-{
-    if code.len() == 0 {
-        return 0;
-    }
-    let mut at = 0;
-    let mut count = 0;
-    while at <= code.len() {
-        let end = bare_at(code, at, b',');
-        if has_equals(&code[at..end]) {
-            return count;
-        }
-        count += 1;
-        at = end + 1;
-    }
-    count
-}
-
-// The operands of a call, whatever its symbols stand for.
-pub fn divide(code: &[u8]) -> call_operands::Divided
+// How many parts of the field are positional, whatever its symbols stand for; the others are keywords. `None` where the parts break the call rules.
+pub fn divide(code: &[u8]) -> Option<usize>
     ensures { (held : ℕ → Cell) → split_by held code.now result ≡ operands_of (toks_by held code.now 0) }
 {
     if !pairs_up(code) {
-        return call_operands::Divided::Bad;
+        return None;
     }
-    if !are_operands(code) {
-        return call_operands::Divided::Bad;
+    let parts = Parts::of(code);
+    if !call_operands::are_operands(parts) {
+        return None;
     }
-    call_operands::Divided::Parts(positional_count(code))
+    Some(call_operands::positional_count(parts))
 }
 
-// Where the part of this number starts, one past the field's end where there is none.
-pub fn part_at(code: &[u8], number: usize) -> usize
-    ensures result_value { parts_from code.now result ≡ drop number (divided (lexemes code.now)) }
-    ensures upper_bound { result ≤ length code.now + 1 }
+// The parts behind the first `number` ones.
+pub fn parts_behind(code: &[u8], number: usize) -> Parts
+    ensures { parts_left result ≡ drop number (divided (lexemes code.now)) }
 {
-    if code.len() == 0 {
-        return 1;
-    }
-    let mut at = 0;
-    let mut left = number;
-    while 0 < left {
-        if code.len() < at {
-            return at;
-        }
-        at = bare_at(code, at, b',') + 1;
-        left -= 1;
-    }
-    at
+    call_operands::behind(Parts::of(code), number)
 }

@@ -5,26 +5,12 @@ ghost use Rattle.std.specs.Prelude.{◌≡◌, ◌+◌, ◌*◌, ◌≤◌, ◌<
 ghost use Rattle.text.specs.Bytes.{Bytes};
 ghost use Rattle.rules.specs.Calls.{is_among};
 ghost use Rattle.rules.specs.Machine.{keyword_value};
-ghost use Rattle.deck_reading.specs.Reading.{run_at, run_end};
-ghost use Rattle.call_keywords.specs.Defaults.{keywords_at, given_from, are_known, value_by};
+ghost use Rattle.deck_reading.specs.Reading.{run_end};
+ghost use Rattle.call_keywords.specs.Defaults.{keywords_at, given_by, are_known, value_by};
 
-// What a call gives for a keyword: a value from a place of its operand to another, or nothing, and the default stands.
-#[derive(Clone, Copy)]
-pub enum Given {
-    Value(usize, usize),
-    Default,
-}
+use parts::Parts;
 
-// The counted run of bytes at a place of the deck.
-pub fn run_at(deck: &[u8], at: usize) -> &[u8]
-    requires { at + 2 < 2 ^ 64 }
-    ensures { result.now ≡ run_at deck.now at }
-{
-    let size = deck_reading::two_at(deck, at);
-    spans::part(deck, at + 2, size)
-}
-
-// Where it ends.
+// Where the counted run of bytes at a place of the deck ends.
 pub fn run_end(deck: &[u8], at: usize) -> usize
     requires { at + 65537 < 2 ^ 64 }
     ensures { (result ≡ run_end deck.now at) × (result ≤ at + 65537) }
@@ -39,47 +25,34 @@ pub fn is_known(deck: &[u8], at: usize, count: usize, name: &[u8]) -> bool
     ensures { result ≡ is_among name.now (keywords_at deck.now at count) }
 {
     let mut place = at;
-    let mut left = count;
-    while 0 < left {
-        if lent::equal(run_at(deck, place), name) {
+    for _ in 0..count {
+        if lent::equal(deck_reading::run_at(deck, place), name) {
             return true;
         }
         let default = run_end(deck, place);
         place = run_end(deck, default);
-        left -= 1;
     }
     false
 }
 
-// Whether each keyword that the operand gives from `from` on is one of the macro's `count` keywords at `at`.
-pub fn are_known(deck: &[u8], at: usize, count: usize, operand: &[u8], from: usize) -> bool
+// Whether each keyword that these parts of an operand give is one of the macro's `count` keywords at `at`.
+pub fn are_known(deck: &[u8], at: usize, count: usize, given: Parts) -> bool
     requires { at + 131074 * count < 2 ^ 64 }
-    ensures { result ≡ are_known (keywords_at deck.now at count) (given_from operand.now from) }
+    ensures { result ≡ are_known (keywords_at deck.now at count) (given_by given.entry) }
 {
-    let mut i = from;
-    while i <= operand.len() {
-        let end = parts::bare_at(operand, i, b',');
-        let cut = parts::bare_at(&operand[i..end], 0, b'=');
-        if !is_known(deck, at, count, &operand[i..i + cut]) {
-            return false;
-        }
-        i = end + 1;
-    }
-    true
+    let mut rest = given;
+    rest.all(|part| is_known(deck, at, count, call_operands::keyword_in(part).0))
 }
 
-// What the operand gives from `from` on for the keyword of this name.
-pub fn given_for(operand: &[u8], from: usize, name: &[u8]) -> Given
-    ensures { (default : Bytes) → value_by operand.now default result ≡ keyword_value name.now default (given_from operand.now from) }
+// The value that these parts of an operand give for the keyword of this name; none where its default stands.
+pub fn given_for<'a>(given: Parts<'a>, name: &[u8]) -> Option<&'a [u8]>
+    ensures { (default : Bytes) → value_by default result ≡ keyword_value name.now default (given_by given.entry) }
 {
-    let mut i = from;
-    while i <= operand.len() {
-        let end = parts::bare_at(operand, i, b',');
-        let cut = parts::bare_at(&operand[i..end], 0, b'=');
-        if lent::equal(&operand[i..i + cut], name) {
-            return Given::Value(i + cut + 1, end);
+    for part in given {
+        let (keyword, value) = call_operands::keyword_in(part);
+        if lent::equal(keyword, name) {
+            return Some(value);
         }
-        i = end + 1;
     }
-    Given::Default
+    None
 }

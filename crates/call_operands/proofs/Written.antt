@@ -1,13 +1,14 @@
 -- One part of a written operand, as its first bare `=` tells it; and the operands of a call as its parts tell them. Assumes nothing.
-use Prim.Native.Nat.{ℕ, zero, suc, ◌+◌, ◌-◌, ◌<◌}
-use native.Mathlib.Nat.{sub-zero}
+use Prim.Native.Nat.{ℕ, zero, suc, min, ◌+◌, ◌-◌, ◌<◌}
 use native.Mathlib.Omega.{arith}
 use mathlib.Core.Path.{◌≡◌, refl, ap, sym, ◌∙◌}
 use mathlib.Core.Bool.{Bool, true, false, ◌&&◌, not, false≢true}
 use mathlib.Core.List.{List, [], ◌∷◌, map}
 use mathlib.Core.Option.{none, some}
-use lib.ListN.{length, take, drop}
-use borrow.Author.Tests.{ltb-true, lt-ltb, le-ltb}
+use lib.ListN.{length, take, drop, drop_of_length-le}
+use Rattle.std.proofs.lemmas.List.{take_rest}
+use lib.Dec.{leb}
+use borrow.Author.Tests.{ltb-true, lt-ltb, le-ltb, leb-true, leb-false}
 use Rattle.text.specs.Bytes.{Bytes, same}
 use Rattle.rules.specs.Choice.{every, run}
 use Rattle.rules.specs.Limits.{name_limit}
@@ -22,7 +23,7 @@ use Rattle.parts.proofs.Told.{before-is, has-equals-is, default-bytes}
 use Rattle.parts.proofs.Divided.{divided-cut}
 use Rattle.declared.proofs.Keyword.{before-told, has-told, default-told}
 use Rattle.call_operands.specs.Calling.{name_of, value_of, pair_of, is_keyword, named_among, may_stand, are_operands, leading, split_at, keyword_in, operands_in}
-use Rattle.call_operands.specs.declared.Divided.TheVariants.{Parts}
+use Rattle.std.specs.Prelude.{Some}
 use Rattle.call_operands.proofs.Gathered.{step-keyword, step-plain, gathered-is}
 use Rattle.call_operands.proofs.Names.{Lexes, name-lettered, read_name, name-told, same-told}
 
@@ -33,11 +34,11 @@ module _ (p : Bytes) (end : ℕ) (e : end ≡ 0 + bare_at equals p) where
   x = lexed true p
 
   abbrev written : Bytes
-  written = take (end - 0) p
+  written = take end p
 
   name-is : name_of x ≡ map byte_of (lexed true written)
   unfolding name_of before_equals
-  name-is = ap (map byte_of) (before-told p end e ∙ ap (λ (n : ℕ). lexed true (take n p)) (sym (sub-zero end)))
+  name-is = ap (map byte_of) (before-told p end e)
 
   pub named-same : (n : Bytes) → is_name name_limit n ≡ true → same written n ≡ same (name_of x) n
   named-same n t = same-told written n (name-lettered name_limit n t) ∙ ap (λ (k : Bytes). same k n) (sym name-is)
@@ -70,6 +71,19 @@ module _ (p : Bytes) (end : ℕ) (e : end ≡ 0 + bare_at equals p) where
 
         pub stand-single : has_equals (lexed true (drop (end + 1) p)) ≡ false → may_stand k x xs ≡ not (named_among written xs)
         stand-single f = stand-is ∙ (λ i. (n i && not (f i)) && not (named_among (is-written i) xs))
+
+-- a keyword and its value, as code cuts them
+pub keyword-told : (p : Bytes) (end : ℕ) → end ≡ 0 + bare_at equals p → (behind : ℕ) → behind ≡ min (end + 1) (length p)
+    → (take end p, take (length p - behind) (drop behind p)) ≡ keyword_in p
+unfolding keyword_in
+keyword-told p end e behind b =
+    let at : end ≡ bare_at equals p = omega (arith, e) in
+    let value : drop behind p ≡ drop (suc (bare_at equals p)) p =
+    by (leb (end + 1) (length p))
+    (λ t. let n : behind ≡ suc (bare_at equals p) = omega (arith, b, at, leb-true (end + 1) (length p) t) in ap (λ (n : ℕ). drop n p) n)
+    (λ t. let past = leb-false (end + 1) (length p) t in
+    drop_of_length-le p {i = behind} (omega (arith, b, past)) ∙ sym (drop_of_length-le p {i = suc (bare_at equals p)} (omega (arith, at, past)))) in
+    λ i. (take (at i) p, (take_rest p behind ∙ value) i)
 
 -- ---- all parts
 
@@ -138,7 +152,7 @@ module _ (s : Bytes) where
       unfolding map_operands
       not-operands f = written_is ∙ ap (map_operands unlexed) (gathered-is (divided (lexed true s)) ∙ passed_over _ _ f)
 
-      pub are-told : are_operands false (divided (lexed true s)) ≡ true → operands_in s (Parts (leading (divided (lexed true s)))) ≡ written_operands s
+      pub are-told : are_operands false (divided (lexed true s)) ≡ true → operands_in s (Some (leading (divided (lexed true s)))) ≡ written_operands s
       unfolding map_operands split_at operands_in
       are-told t =
           let d = divided-cut s in
@@ -150,4 +164,4 @@ module _ (s : Bytes) where
             positionals = front-are (leading (map (lexed true) (parts_of s))) (parts_of s) i;
             keywords = behind-are (parts_of s) a i;
           }))
-          ∙ ap (λ (n : ℕ). operands_in s (Parts n)) (ap leading (sym d)))))
+          ∙ ap (λ (n : ℕ). operands_in s (Some n)) (ap leading (sym d)))))

@@ -1,6 +1,7 @@
 -- The operands of a call as they are told from its parts in one pass: which parts are keywords, whether all of them may stand so, how many are positional.
 -- That these are 01's operands is proofs/Gathered. Assumes nothing.
 use Rattle.std.specs.Prelude.{ℕ, suc, Bool, true, ◌&&◌, not, List, [], ◌∷◌, map, take, drop}
+use Rattle.std.specs.Prelude.{Option as Found, Some, None}
 use Rattle.std.proofs.Math.Option.{Option, none, some}
 use Rattle.text.specs.Bytes.{Bytes, same}
 use Rattle.rules.specs.Choice.{choose, any, run}
@@ -8,8 +9,6 @@ use Rattle.rules.specs.Limits.{name_limit}
 use Rattle.rules.specs.Lexemes.{equals, Lex, byte_of, is_name}
 use Rattle.rules.specs.Calls.{equals_at, has_equals, Operands}
 use Rattle.parts.specs.Parts.{bare_at, parts_of}
-use Rattle.call_operands.specs.declared.Divided.{Divided}
-use Rattle.call_operands.specs.declared.Divided.TheVariants.{Bad, Parts}
 
 module _ {R : Type 0} where
   -- what stands before a part's `=`, and behind it
@@ -52,6 +51,6 @@ unfoldable pub keyword_in : Bytes → Bytes × Bytes
 keyword_in p = (take (bare_at equals p) p, drop (suc (bare_at equals p)) p)
 
 -- the operands that a division of an operand stands for: the first so many parts are positional, the others keywords
-unfoldable pub operands_in : Bytes → Divided → Option (Operands Bytes)
-operands_in s Bad = none
-operands_in s (Parts n) = some (record { positionals = take n (parts_of s); keywords = map keyword_in (drop n (parts_of s)) })
+unfoldable pub operands_in : Bytes → Found ℕ → Option (Operands Bytes)
+operands_in s None = none
+operands_in s (Some n) = some (record { positionals = take n (parts_of s); keywords = map keyword_in (drop n (parts_of s)) })

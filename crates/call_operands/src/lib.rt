@@ -1,136 +1,174 @@
 // The operands of a call: a field divided at its commas, the positionals first, then the keywords.
 #![tactic(auto)]
 
-ghost use Rattle.std.specs.Prelude.{◌≡◌, true, false, map, ◌+◌, ◌≤◌, length, drop};
-ghost use Rattle.text.specs.Bytes.{same};
+ghost use Rattle.std.specs.Prelude.{◌≡◌, true, false, map, drop, List, length, ◌<◌, ◌≤◌, ◌^◌};
+ghost use Rattle.std.specs.Iterator.{YieldsFirstBy};
+ghost use Rattle.text.specs.Bytes.{Bytes, same};
 ghost use Rattle.rules.specs.Limits.{name_limit};
-ghost use Rattle.rules.specs.Lexemes.{lexed, is_name};
-ghost use Rattle.rules.specs.Calls.{divided};
+ghost use Rattle.rules.specs.Lexemes.{Lex, lexed, is_name};
+ghost use Rattle.rules.specs.Calls.{has_equals};
 ghost use Rattle.rules.specs.Machine.{written_operands};
-ghost use Rattle.parts.specs.Parts.{parts_from, parts_of};
-ghost use Rattle.call_operands.specs.Calling.{name_of, named_among, may_stand, are_operands, leading, operands_in};
+ghost use Rattle.parts.specs.Parts.{parts_of, parts_left};
+ghost use Rattle.call_operands.specs.Cuts.{IsCut};
+ghost use Rattle.call_operands.specs.Calling.{name_of, named_among, may_stand, are_operands, leading, keyword_in, operands_in};
 
-// A call's operands break the call rules, or so many of their parts are positional and the others keywords.
-#[derive(Clone, Copy)]
-pub enum Divided {
-    Bad,
-    Parts(usize),
+use parts::Parts;
+
+// What stands before a part's `=`, and behind it; all of the part and nothing where it has none.
+pub fn keyword_in(part: &[u8]) -> (&[u8], &[u8])
+    ensures { (result.0.now, result.1.now) ≡ keyword_in part.now }
+{
+    let end = parts::bare_at(part, 0, b'=');
+    let behind = (end + 1).min(part.len());
+    (&part[..end], &part[behind..])
+}
+
+// Parts in turn, whose lexemes are told and cut in one way: those of a written operand by its bytes, those of a body's field by its codes.
+pub trait Divides<'a>: Copy {
+    ghost symbol: { Type 0 };
+
+    ghost lexemes: { Bytes → List (Lex symbol) };
+
+    ghost left: { Self → List (List (Lex symbol)) };
+
+    // The next part, if one is left.
+    fn next_part(&mut self) -> Option<&'a [u8]>
+        ensures { YieldsFirstBy (λ part. lexemes part.now) left self.old result self.new };
+
+    // Where the first bare `=` of a part stands; its length where none does.
+    fn equals_in(part: &[u8]) -> usize
+        ensures { IsCut lexemes part.now result };
+}
+
+// Whether the part has `=` outside quotes and parentheses.
+fn has_equals<'a, P: Divides<'a>>(part: &[u8]) -> bool
+    ensures { result ≡ has_equals (P.lexemes part.now) }
+{
+    P::equals_in(part) < part.len()
 }
 
 // Whether the part's keyword has this name.
-fn is_named(part: &[u8], name: &[u8]) -> bool
+fn is_named<'a, P: Divides<'a>>(part: &[u8], name: &[u8]) -> bool
     requires { is_name name_limit name.now ≡ true }
-    ensures { result ≡ same (name_of (lexed true part.now)) name.now }
+    ensures { result ≡ same (name_of (P.lexemes part.now)) name.now }
 {
-    let end = parts::bare_at(part, 0, b'=');
-    lent::equal(&part[0..end], name)
+    let end = P::equals_in(part);
+    lent::equal(&part[..end], name)
 }
 
-// Whether one of the parts from `at` on has a keyword of this name.
-fn named_among(operand: &[u8], at: usize, name: &[u8]) -> bool
+// Whether one of these parts has a keyword of this name.
+fn named_among<'a, P: Divides<'a>>(parts: P, name: &[u8]) -> bool
     requires { is_name name_limit name.now ≡ true }
-    ensures { result ≡ named_among name.now (map (lexed true) (parts_from operand.now at)) }
+    ensures { result ≡ named_among name.now (P.left parts) }
 {
-    let mut i = at;
-    while i <= operand.len() {
-        let end = parts::bare_at(operand, i, b',');
-        if is_named(&operand[i..end], name) {
+    let mut rest = parts;
+    while let Some(part) = rest.next_part() {
+        if is_named::<P>(part, name) {
             return true;
         }
-        i = end + 1;
     }
     false
 }
 
-// Whether the part may stand before the parts from `rest` on, where `keywords` says that one stood before it.
-fn may_stand(operand: &[u8], part: &[u8], rest: usize, keywords: bool) -> bool
-    ensures { result ≡ may_stand keywords (lexed true part.now) (map (lexed true) (parts_from operand.now rest)) }
+// Whether the part may stand before the parts of `rest`, where `keywords` says that one stood before it.
+fn may_stand<'a, P: Divides<'a>>(part: &[u8], rest: P, keywords: bool) -> bool
+    ensures { result ≡ may_stand keywords (P.lexemes part.now) (P.left rest) }
 {
-    let end = parts::bare_at(part, 0, b'=');
+    let end = P::equals_in(part);
     if end == part.len() {
         return !keywords;
     }
-    if !statements::is_name(&part[0..end], 7) {
+    if !statements::is_name(&part[..end], 7) {
         return false;
     }
-    if operands::has_equals(&part[end + 1..]) {
+    if has_equals::<P>(&part[end + 1..]) {
         return false;
     }
-    !named_among(operand, rest, &part[0..end])
+    !named_among(rest, &part[..end])
 }
 
 // Whether the parts are positionals, and then keywords of which none is repeated.
-fn are_operands(operand: &[u8]) -> bool
-    ensures { result ≡ are_operands false (divided (lexed true operand.now)) }
+pub fn are_operands<'a, P: Divides<'a>>(parts: P) -> bool
+    ensures { result ≡ are_operands false (P.left parts) }
 {
-    if operand.len() == 0 {
-        return true;
-    }
-    let mut at = 0;
+    let mut rest = parts;
     let mut keywords = false;
-    while at <= operand.len() {
-        let end = parts::bare_at(operand, at, b',');
-        if !may_stand(operand, &operand[at..end], end + 1, keywords) {
+    while let Some(part) = rest.next_part() {
+        if !may_stand(part, rest, keywords) {
             return false;
         }
-        keywords = operands::has_equals(&operand[at..end]);
-        at = end + 1;
+        keywords = has_equals::<P>(part);
     }
     true
 }
 
 // How many positionals stand first.
-fn positional_count(operand: &[u8]) -> usize
-    ensures { result ≡ leading (divided (lexed true operand.now)) }
+pub fn positional_count<'a, P: Divides<'a>>(parts: P) -> usize
+    requires { length (P.left parts) < 2 ^ 64 }
+    ensures { result ≡ leading (P.left parts) }
 {
-    if operand.len() == 0 {
-        return 0;
-    }
-    let mut at = 0;
-    let mut count = 0;
-    while at <= operand.len() {
-        let end = parts::bare_at(operand, at, b',');
-        if operands::has_equals(&operand[at..end]) {
+    let mut rest = parts;
+    let mut count: usize = 0;
+    while let Some(part) = rest.next_part() {
+        if has_equals::<P>(part) {
             return count;
         }
         count += 1;
-        at = end + 1;
     }
     count
 }
 
-// The operands of a call whose values are the written bytes.
-pub fn divide(operand: &[u8]) -> Divided
+// The parts behind the first `number` ones.
+pub fn behind<'a, P: Divides<'a>>(parts: P, number: usize) -> P
+    ensures { P.left result ≡ drop number (P.left parts) }
+{
+    let mut rest = parts;
+    for _ in 0..number {
+        let _ = rest.next_part();
+    }
+    rest
+}
+
+impl<'a> Divides<'a> for Parts<'a> {
+    ghost symbol = { Bytes };
+
+    ghost lexemes = { lexed true };
+
+    ghost left = { λ parts. map (lexed true) (parts_left parts) };
+
+    fn next_part(&mut self) -> Option<&'a [u8]>
+        ensures { YieldsFirstBy (λ part. lexed true part.now) (λ parts. map (lexed true) (parts_left parts)) self.old result self.new }
+    {
+        self.next()
+    }
+
+    fn equals_in(part: &[u8]) -> usize
+        ensures { IsCut (lexed true) part.now result }
+    {
+        parts::bare_at(part, 0, b'=')
+    }
+}
+
+// How many parts of the operand are positional, where the values are the written bytes; the others are keywords. `None` where the parts break the call rules.
+pub fn divide(operand: &[u8]) -> Option<usize>
     ensures { operands_in operand.now result ≡ written_operands operand.now }
 {
     if !declared::is_plain(operand) {
-        return Divided::Bad;
+        return None;
     }
     if !declared::pairs_up(operand) {
-        return Divided::Bad;
+        return None;
     }
-    if !are_operands(operand) {
-        return Divided::Bad;
+    let parts = Parts::of(operand);
+    if !are_operands(parts) {
+        return None;
     }
-    Divided::Parts(positional_count(operand))
+    Some(positional_count(parts))
 }
 
-// Where the part of this number starts, one past the operand's end where there is none.
-pub fn part_at(operand: &[u8], number: usize) -> usize
-    ensures result_value { parts_from operand.now result ≡ drop number (parts_of operand.now) }
-    ensures upper_bound { result ≤ length operand.now + 1 }
+// The parts behind the first `number` ones.
+pub fn parts_behind(operand: &[u8], number: usize) -> Parts
+    ensures { parts_left result ≡ drop number (parts_of operand.now) }
 {
-    if operand.len() == 0 {
-        return 1;
-    }
-    let mut at = 0;
-    let mut left = number;
-    while 0 < left {
-        if operand.len() < at {
-            return at;
-        }
-        at = parts::bare_at(operand, at, b',') + 1;
-        left -= 1;
-    }
-    at
+    behind(Parts::of(operand), number)
 }

@@ -1,8 +1,9 @@
-// Which bytes are legal, and which of them are letters and digits: document 01, "Lines and fields".
+// Which bytes are legal, which of them are letters and digits, and where a run of these ends: document 01, "Lines and fields".
 #![tactic(auto)]
 
-ghost use Rattle.std.specs.Prelude.{◌≡◌};
+ghost use Rattle.std.specs.Prelude.{◌≡◌, ◌+◌, ◌-◌, ◌≤◌, length};
 ghost use Rattle.text.specs.Characters.{in_set, letter, digit, letter_or_digit};
+ghost use Rattle.chars.specs.Ends.{symbol_end};
 
 // Whether a line may have the byte `b`.
 pub fn in_set(b: u8) -> bool
@@ -56,4 +57,12 @@ pub fn letter_or_digit(b: u8) -> bool
     ensures { result ≡ letter_or_digit b }
 {
     letter(b) || digit(b)
+}
+
+// Where the letters and digits from `at` on end.
+pub fn symbol_end(s: &[u8], at: usize) -> usize
+    ensures value { result ≡ symbol_end s.now at }
+    ensures lower_bound { (at ≤ result) × (result ≤ at + (length s.now - at)) }
+{
+    lent::run_end(s, at, letter_or_digit)
 }

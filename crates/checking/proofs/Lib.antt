@@ -1,5 +1,3 @@
-pub mod Words
-pub mod Placed
 pub mod Around
 pub mod Tested
 pub mod Symbols

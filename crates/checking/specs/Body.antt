@@ -16,6 +16,7 @@ use Rattle.grammar.specs.Tokens.{toks_at}
 use Rattle.symbols.specs.Held.{unknown_in}
 use Rattle.shapes.specs.declared.Shape.{Shape}
 use Rattle.shapes.specs.Shapes.{part, ends_of, shape_of}
+use Rattle.checking.specs.declared.Tables.{Tables as Lent}
 use Rattle.declaring.specs.Declared.{symbols_in, is_taken, globals_in}
 
 -- the lowest of the numbers 2 to 5 whose test holds; 0 where none does
@@ -42,6 +43,10 @@ pub record Tables : Type 0 where
   pub global : Bytes
   pub shared : Bytes
   pub kinds : Bytes
+
+-- those that code has
+abbrev pub tables_of : Lent → Tables
+tables_of t = record { own = t.names.own.now; global = t.names.global.now; shared = t.names.shared.now; kinds = t.kinds.now }
 
 -- 3, by statement: the codes of the operation and the operand, and the code of a target
 unfoldable pub bad_symbols : Tables → List Bytes → List Bytes → Bytes → Bytes → Bytes → Bytes → Statement → Bool

@@ -16,7 +16,8 @@ use Rattle.rules.specs.Choice.{run}
 use Rattle.rules.specs.Lexemes.{ampersand, apostrophe, Before, is_mark}
 use Rattle.rules.proofs.Choices.{by}
 use Rattle.deck.specs.Coders.{mark_code, no_code}
-use Rattle.coding.specs.Coded.{codes_from, symbol_end, Leads}
+use Rattle.coding.specs.Coded.{codes_from, Leads}
+use Rattle.chars.specs.Ends.{symbol_end}
 use Rattle.coding.proofs.Marks.{mark-told}
 use Rattle.coding.proofs.Lexed.{moved, carried-is, mark-first, quote-first, plain-first, pair-first, lone-first, symbol-first}
 
@@ -49,7 +50,7 @@ module _ (f : Bytes → ℕ) (quotes : Bool) (field : Bytes) (at : ℕ) (b : Bef
 
   -- one byte of the field is one byte of its code
   one : (k : ℕ) (a : Before) → codes_from f quotes b (c ∷ tail) ≡ k ∷ codes_from f quotes a tail
-      → Leads f quotes field at b (record { byte = k; count = 1; next = at + 1; second = a.second; first = a.first; quoted = a.quoted })
+      → Leads f quotes field at b (record { byte = k; count = 1; next = at + 1; behind = record { second = a.second; first = a.first; quoted = a.quoted } })
   one k a e = record { codes = ap (codes_from f quotes b) first-is ∙ e; ahead = omega arith; inside = omega arith; few = omega arith }
 
   module _ (other : c ≡ ampersand → ⊥) where
@@ -57,23 +58,23 @@ module _ (f : Bytes → ℕ) (quotes : Bool) (field : Bytes) (at : ℕ) (b : Bef
     other_test = ne_eqb c ampersand other
 
     pub mark-piece : is_mark b c (d ∷ []) ≡ true
-        → Leads f quotes field at b (record { byte = mark_code; count = 1; next = at + 1; second = b.first; first = c; quoted = b.quoted })
+        → Leads f quotes field at b (record { byte = mark_code; count = 1; next = at + 1; behind = record { second = b.first; first = c; quoted = b.quoted } })
     mark-piece e = one mark_code (moved b c) (mark-first f quotes b c tail other_test (told e))
 
     module _ (e : is_mark b c (d ∷ []) ≡ false) where
       pub quote-piece : c ≡ apostrophe
-          → Leads f quotes field at b (record { byte = c; count = 1; next = at + 1; second = b.first; first = c; quoted = quotes && not b.quoted })
+          → Leads f quotes field at b (record { byte = c; count = 1; next = at + 1; behind = record { second = b.first; first = c; quoted = quotes && not b.quoted } })
       quote-piece q =
           one c (record { second = b.first; first = c; quoted = quotes && not b.quoted })
           (quote-first f quotes b c tail other_test (told e) (eq-eqb c apostrophe q))
 
       pub byte-piece : (c ≡ apostrophe → ⊥)
-          → Leads f quotes field at b (record { byte = c; count = 1; next = at + 1; second = b.first; first = c; quoted = b.quoted })
+          → Leads f quotes field at b (record { byte = c; count = 1; next = at + 1; behind = record { second = b.first; first = c; quoted = b.quoted } })
       byte-piece q = one c (moved b c) (plain-first f quotes b c tail other_test (told e) (ne_eqb c apostrophe q))
 
   module _ (is : c ≡ ampersand) where
     pub lone-piece : (d ≡ ampersand → ⊥) → letter d ≡ false
-        → Leads f quotes field at b (record { byte = no_code; count = 1; next = at + 1; second = b.first; first = c; quoted = b.quoted })
+        → Leads f quotes field at b (record { byte = no_code; count = 1; next = at + 1; behind = record { second = b.first; first = c; quoted = b.quoted } })
     lone-piece n l =
         one no_code (moved b c)
         ((λ i. codes_from f quotes b (is i ∷ tail))
@@ -91,7 +92,7 @@ module _ (f : Bytes → ℕ) (quotes : Bool) (field : Bytes) (at : ℕ) (b : Bef
       both-are : drop at field ≡ ampersand ∷ (d ∷ rest)
       both-are = first-is ∙ (λ i. is i ∷ second_is i)
 
-    pub pair-piece : d ≡ ampersand → Leads f quotes field at b (record { byte = c; count = 2; next = at + 2; second = c; first = c; quoted = b.quoted })
+    pub pair-piece : d ≡ ampersand → Leads f quotes field at b (record { byte = c; count = 2; next = at + 2; behind = record { second = c; first = c; quoted = b.quoted } })
     pair-piece e =
         let k : at + 1 < length field = inside-by (λ m. eqb m ampersand) field (at + 1) refl (eq-eqb d ampersand e) in
         record {
@@ -109,7 +110,7 @@ module _ (f : Bytes → ℕ) (quotes : Bool) (field : Bytes) (at : ℕ) (b : Bef
 
     pub symbol-piece : letter d ≡ true → (end byte : ℕ) → end ≡ symbol_end field (at + 2) → end ≤ at + 2 + (length field - (at + 2))
         → byte ≡ f (take (end - (at + 1)) tail)
-        → Leads f quotes field at b (record { byte = byte; count = 1; next = end; second = get_or field (end - 2) 0; first = get_or field (end - 1) 0; quoted = b.quoted })
+        → Leads f quotes field at b (record { byte = byte; count = 1; next = end; behind = record { second = get_or field (end - 2) 0; first = get_or field (end - 1) 0; quoted = b.quoted } })
     unfolding symbol_end
     symbol-piece l end byte e high eb =
         let k : at + 1 < length field = letter-inside l in

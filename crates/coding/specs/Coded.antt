@@ -1,11 +1,10 @@
 -- The bytes of a field's lexemes in a deck, and what one piece of a field comes to. Assumes nothing.
 use Rattle.std.specs.Prelude.{ℕ, ◌+◌, ◌≤◌, ◌<◌, ◌≡◌, Bool, ◌++◌, map, length, drop, replicate}
 use Rattle.text.specs.Bytes.{Bytes}
-use Rattle.text.specs.Characters.{letter_or_digit}
-use Rattle.rules.specs.Choice.{run}
 use Rattle.rules.specs.Lexemes.{Lex, byte, mark, ref, lone, Before, marked, in_text, symbols, lexed}
 use Rattle.deck.specs.Coders.{mark_code, no_code}
 use Rattle.names.specs.Names.{slot_byte}
+use Rattle.coding.specs.declared.Before.{Before as Kept}
 use Rattle.coding.specs.declared.Piece.{Piece}
 
 -- the byte of a lexeme, where a variable symbol's byte is known: `lex_code` of the deck, for names (proofs/Resolved.antt)
@@ -23,13 +22,12 @@ field_code quotes own global shared s = map (code_by (slot_byte own global share
 unfoldable pub codes_from : (Bytes → ℕ) → Bool → Before → Bytes → Bytes
 codes_from f quotes b s = map (code_by f) (symbols in_text (marked quotes b s))
 
--- where the letters and digits from `at` on end
-unfoldable pub symbol_end : Bytes → ℕ → ℕ
-symbol_end s at = at + run letter_or_digit (drop at s)
+-- what stands before a place, and behind a piece
+abbrev pub before_of : Kept → Before
+before_of b = record { second = b.second; first = b.first; quoted = b.quoted }
 
--- what stands behind a piece
 abbrev pub behind : Piece → Before
-behind p = record { second = p.second; first = p.first; quoted = p.quoted }
+behind p = before_of p.behind
 
 -- the field from `at` on is the piece, and then the field from the piece's end on
 pub record Leads (f : Bytes → ℕ) (quotes : Bool) (field : Bytes) (at : ℕ) (b : Before) (p : Piece) : Type 0 where

@@ -70,6 +70,10 @@ module _ (all : List Bytes) (first : Counts) (own₀ global₀ shared₀ kinds�
       (r : Counts) (own₂ global₂ shared₂ kinds₂ : Bytes) → Brings ls rows own global shared kinds r own₂ global₂ shared₂ kinds₂
       → Brings all first own₀ global₀ shared₀ kinds₀ r own₂ global₂ shared₂ kinds₂
 
+  -- all lines are left
+  pub completes-all : (ls : List Bytes) → ls ≡ all → Completes ls first own₀ global₀ shared₀ kinds₀
+  completes-all ls e r own₂ global₂ shared₂ kinds₂ g = subst (λ (x : List Bytes). Brings x first own₀ global₀ shared₀ kinds₀ r own₂ global₂ shared₂ kinds₂) e g
+
   pub completes-then : (ks : List Bytes) (l : Bytes) (ls : List Bytes) → ks ≡ l ∷ ls → (rows : Counts) (own global shared kinds : Bytes) → Completes ks rows own global shared kinds
       → (rows₁ : Counts) (own₁ global₁ shared₁ kinds₁ : Bytes) → Declares l rows own global shared kinds rows₁ own₁ global₁ shared₁ kinds₁
       → Completes ls rows₁ own₁ global₁ shared₁ kinds₁

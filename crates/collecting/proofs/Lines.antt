@@ -1,16 +1,16 @@
 -- Tables when a line's symbols were put into them: a line that declares nothing, its locals, its globals. Assumes nothing.
-use Prim.Native.Nat.{ℕ, ◌+◌, ◌*◌, ◌-◌, ◌≤◌, ◌<◌}
+use Prim.Native.Nat.{ℕ, ◌+◌, ◌*◌, ◌-◌, ◌≤◌}
 use native.Mathlib.Omega.{arith}
 use mathlib.Core.Path.{◌≡◌, refl, ap, sym, ◌∙◌, subst}
 use mathlib.Core.Bool.{false, true}
 use mathlib.Core.List.{List, [], ◌∷◌, ◌++◌}
-use lib.ListN.{length, take, drop, replicate, get_or, length-append}
+use lib.ListN.{length, take, drop, replicate, length-append}
 use Rattle.text.specs.Bytes.{Bytes}
 use Rattle.text.specs.Words.{words, word_number}
 use Rattle.rules.specs.Choice.{any}
 use Rattle.rules.specs.Lexemes.{is_long}
 use Rattle.rules.specs.Fields.{is_remark, Fields, no_fields, fields_of, statement_fields}
-use Rattle.rules.specs.Statement.{Set, global, model, statements, statement_of}
+use Rattle.rules.specs.Statement.{Set, Statement, local, global, statements, statement_of}
 use Rattle.rules.specs.Grammar.{symbol}
 use Rattle.rules.specs.Library.{operation_of, of_kind, operand_parts, locals_by, globals_by, locals_on, globals_on, Names, firsts, parameter_names, with_globals, names_in as names_of}
 use Rattle.rules.specs.ByLines.{own_names}
@@ -32,7 +32,6 @@ use Rattle.filling.specs.Added.{Adds}
 use Rattle.filling.proofs.Lines.{locals-held, globals-held}
 use Rattle.collecting.specs.declared.Rows.{Rows as Counts}
 use Rattle.collecting.specs.Collected.{Declared, Declares}
-use Rattle.collecting.proofs.Words.{LocalWord, GlobalWord, Neither, before-declarations, behind-declarations}
 
 -- ---- the names of one kind, back
 
@@ -100,17 +99,21 @@ module _ (l : Bytes) (rows : Counts) (own global' shared kinds : Bytes) where
 
 -- ---- a line by its places
 
-no_word : Neither no_fields (word_number [])
-unfolding word_number words
-no_word = behind-declarations no_fields (word_number []) (omega arith)
+-- a statement declares nothing
+abbrev pub Neither : Fields → Statement → Type 0
+Neither f st = (locals_by f st ≡ []) × (globals_by f st ≡ [])
+
+no_word : Neither no_fields (statement_of [])
+unfolding statement_of statements word_number words locals_by globals_by
+no_word = (refl, refl)
 
 pub remark-locals : (l : Bytes) → is_remark l ≡ true → (locals_on l ≡ []) × (globals_on l ≡ [])
-unfolding locals_on globals_on statement_fields statement_of no_fields
+unfolding locals_on globals_on statement_fields no_fields
 remark-locals l e =
     let f = chosen no_fields (fields_of l) e in
     (ap (λ (x : Fields). locals_by x (statement_of x.operation)) f ∙ no_word.0, ap (λ (x : Fields). globals_by x (statement_of x.operation)) f ∙ no_word.1)
 
-module _ (l : Bytes) (c : Marks) (e : is_remark l ≡ false) (f : c ≡ cuts_of l) (word : ℕ) (w : word ≡ word_number (take (c.space - c.operation) (drop c.operation l))) where
+module _ (l : Bytes) (c : Marks) (e : is_remark l ≡ false) (f : c ≡ cuts_of l) (st : Statement) (w : st ≡ statement_of (take (c.space - c.operation) (drop c.operation l))) where
   abbrev operand : Bytes
   operand = take (c.remarks - c.operand) (drop c.operand l)
 
@@ -118,32 +121,29 @@ module _ (l : Bytes) (c : Marks) (e : is_remark l ≡ false) (f : c ≡ cuts_of 
   unfolding statement_fields
   fields-are = passed_over no_fields (fields_of l) e ∙ (fields-cut l ∙ ap (fields_by l) (sym f))
 
-  statement-is : statement_of (operation_of l) ≡ get_or statements word model
-  unfolding statement_of operation_of fields_by
-  statement-is = ap (λ (x : Fields). statement_of x.operation) fields-are ∙ ap (λ (n : ℕ). get_or statements n model) (sym w)
+  statement-is : statement_of (operation_of l) ≡ st
+  unfolding operation_of fields_by
+  statement-is = ap (λ (x : Fields). statement_of x.operation) fields-are ∙ sym w
 
-  locals_are : locals_on l ≡ locals_by (fields_by l c) (get_or statements word model)
-  unfolding locals_on statement_of fields_by
-  locals_are = ap (λ (x : Fields). locals_by x (statement_of x.operation)) fields-are ∙ ap (λ (n : ℕ). locals_by (fields_by l c) (get_or statements n model)) (sym w)
+  locals_are : locals_on l ≡ locals_by (fields_by l c) st
+  unfolding locals_on fields_by
+  locals_are = ap (λ (x : Fields). locals_by x (statement_of x.operation)) fields-are ∙ ap (locals_by (fields_by l c)) (sym w)
 
-  globals-are : globals_on l ≡ globals_by (fields_by l c) (get_or statements word model)
-  unfolding globals_on statement_of fields_by
-  globals-are = ap (λ (x : Fields). globals_by x (statement_of x.operation)) fields-are ∙ ap (λ (n : ℕ). globals_by (fields_by l c) (get_or statements n model)) (sym w)
+  globals-are : globals_on l ≡ globals_by (fields_by l c) st
+  unfolding globals_on fields_by
+  globals-are = ap (λ (x : Fields). globals_by x (statement_of x.operation)) fields-are ∙ ap (globals_by (fields_by l c)) (sym w)
 
-  pub first-words : word < 3 → (locals_on l ≡ []) × (globals_on l ≡ [])
-  first-words h = let n = before-declarations (fields_by l c) word h in (locals_are ∙ n.0, globals-are ∙ n.1)
+  pub no-line : Neither (fields_by l c) st → (locals_on l ≡ []) × (globals_on l ≡ [])
+  no-line n = (locals_are ∙ n.0, globals-are ∙ n.1)
 
-  pub last-words : 9 ≤ word → (locals_on l ≡ []) × (globals_on l ≡ [])
-  last-words h = let n = behind-declarations (fields_by l c) word h in (locals_are ∙ n.0, globals-are ∙ n.1)
-
-  pub local-line : (k : LocalWord word) → (locals_on l ≡ of_kind k.kind (symbols_in (take (c.remarks - c.operand) (drop c.operand l)))) × (globals_on l ≡ [])
+  pub local-line : (k : Set) → st ≡ local k → (locals_on l ≡ of_kind k (symbols_in (take (c.remarks - c.operand) (drop c.operand l)))) × (globals_on l ≡ [])
   unfolding locals_by globals_by operand_parts symbols_in fields_by
-  local-line k = (locals_are ∙ ap (locals_by (fields_by l c)) k.is, globals-are ∙ ap (globals_by (fields_by l c)) k.is)
+  local-line k h = (locals_are ∙ ap (locals_by (fields_by l c)) h, globals-are ∙ ap (globals_by (fields_by l c)) h)
 
-  pub global-line : (k : GlobalWord word)
-      → (locals_on l ≡ []) × ((globals_on l ≡ of_kind k.kind (symbols_in (take (c.remarks - c.operand) (drop c.operand l)))) × (statement_of (operation_of l) ≡ global k.kind))
+  pub global-line : (k : Set) → st ≡ global k
+      → (locals_on l ≡ []) × ((globals_on l ≡ of_kind k (symbols_in (take (c.remarks - c.operand) (drop c.operand l)))) × (statement_of (operation_of l) ≡ global k))
   unfolding locals_by globals_by operand_parts symbols_in fields_by
-  global-line k = (locals_are ∙ ap (locals_by (fields_by l c)) k.is, (globals-are ∙ ap (globals_by (fields_by l c)) k.is, statement-is ∙ k.is))
+  global-line k h = (locals_are ∙ ap (locals_by (fields_by l c)) h, (globals-are ∙ ap (globals_by (fields_by l c)) h, statement-is ∙ h))
 
 -- ---- symbols that are not too long
 

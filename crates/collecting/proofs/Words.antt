@@ -1,23 +1,22 @@
--- What a statement declares, by the number of its word. Assumes nothing.
-use Prim.Native.Nat.{ℕ, zero, suc, ◌+◌, ◌-◌, ◌≤◌, ◌<◌}
+-- The words of declarations: their places, and that each has four letters. Assumes nothing.
+use Prim.Native.Nat.{ℕ, zero, suc, ◌+◌, ◌≤◌, ◌<◌}
 use native.Mathlib.Nat.{le_of_suc-le-suc, not-suc-le-zero}
 use native.Mathlib.Omega.{arith}
 use mathlib.Core.Path.{◌≡◌, refl, ap, sym, ◌∙◌, subst}
 use mathlib.Core.Bool.{Bool, true, false}
 use mathlib.Core.List.{List, [], ◌∷◌}
-use lib.Dec.{eqb, ltb}
-use lib.ListN.{length, get_or, get_or-eq_default}
-use borrow.Author.Tests.{eqb-true, eqb-false, ltb-true, ltb-false}
+use lib.Dec.{eqb}
+use lib.ListN.{length, get_or}
+use borrow.Author.Tests.{eqb-true, eqb-false}
 use Rattle.text.specs.Bytes.{Bytes, same}
 use Rattle.text.specs.Words.{words, place_among, word_number}
 use Rattle.text.proofs.Same.{same-is}
-use Rattle.rules.specs.Fields.{Fields}
-use Rattle.rules.specs.Statement.{Set, set_a, set_b, set_c, local, global, model, statements}
-use Rattle.rules.specs.Grammar.{symbol}
-use Rattle.rules.specs.Library.{locals_by, globals_by}
 use Rattle.rules.proofs.Choices.{by}
-use Rattle.deck.specs.Coders.{set_code}
-use Rattle.grammar.specs.Kinds.{number_of}
+use Rattle.std.specs.Prelude.{Some}
+use Rattle.kinds.specs.declared.Set.{Set as Kept}
+use Rattle.kinds.specs.declared.Set.TheVariants.{A, B, C}
+use Rattle.kinds.specs.declared.Word.TheVariants.{Lcl, Gbl}
+use Rattle.words.specs.Places.{place_of}
 
 -- ---- numbers in a range
 
@@ -32,48 +31,17 @@ range P lo (suc n) e w h k =
     by (eqb lo w) (λ q. subst P (eqb-true lo w q) e.0)
     (λ q. let d = eqb-false lo w q in range P (suc lo) n e.1 w (omega (arith, d, h)) (omega (arith, k)))
 
--- ---- LCLA LCLB LCLC
+-- ---- where the words of declarations stand
 
-pub record LocalWord (w : ℕ) : Type 0 where
-  pub kind : Set
-  pub is : get_or statements w model ≡ local kind
-  pub code : w - 2 ≡ number_of (symbol kind)
+pub local-place : (k : Kept) → (3 ≤ place_of (Some (Lcl k))) × (place_of (Some (Lcl k)) < 9)
+local-place A = (omega arith, omega arith)
+local-place B = (omega arith, omega arith)
+local-place C = (omega arith, omega arith)
 
-pub local-word : (w : ℕ) → 3 ≤ w → w < 6 → LocalWord w
-unfolding statements number_of
-local-word =
-    range LocalWord 3 3
-    (record { kind = set_a; is = refl; code = refl }, (record { kind = set_b; is = refl; code = refl }, (record { kind = set_c; is = refl; code = refl }, tt)))
-
--- ---- GBLA GBLB GBLC
-
-pub record GlobalWord (w : ℕ) : Type 0 where
-  pub kind : Set
-  pub is : get_or statements w model ≡ global kind
-  pub code : w - 6 ≡ set_code kind
-
-pub global-word : (w : ℕ) → 6 ≤ w → w < 9 → GlobalWord w
-unfolding statements set_code
-global-word =
-    range GlobalWord 6 3
-    (record { kind = set_a; is = refl; code = refl }, (record { kind = set_b; is = refl; code = refl }, (record { kind = set_c; is = refl; code = refl }, tt)))
-
--- ---- all others declare nothing
-
-abbrev pub Neither : Fields → ℕ → Type 0
-Neither f w = (locals_by f (get_or statements w model) ≡ []) × (globals_by f (get_or statements w model) ≡ [])
-
-module _ (f : Fields) where
-  pub before-declarations : (w : ℕ) → w < 3 → Neither f w
-  unfolding statements locals_by globals_by
-  before-declarations w h = range (Neither f) 0 3 ((refl, refl), ((refl, refl), ((refl, refl), tt))) w (omega arith) h
-
-  pub behind-declarations : (w : ℕ) → 9 ≤ w → Neither f w
-  unfolding statements locals_by globals_by
-  behind-declarations w h =
-      by (ltb w 16)
-      (λ e. range (Neither f) 9 7 ((refl, refl), ((refl, refl), ((refl, refl), ((refl, refl), ((refl, refl), ((refl, refl), ((refl, refl), tt))))))) w h (ltb-true w 16 e))
-      (λ e. let m = get_or-eq_default statements model (ltb-false w 16 e) in (ap (locals_by f) m, ap (globals_by f) m))
+pub global-place : (k : Kept) → (3 ≤ place_of (Some (Gbl k))) × (place_of (Some (Gbl k)) < 9)
+global-place A = (omega arith, omega arith)
+global-place B = (omega arith, omega arith)
+global-place C = (omega arith, omega arith)
 
 -- ---- a declaration's word has four letters
 

@@ -7,12 +7,19 @@ ghost use Rattle.rules.specs.Lexemes.{is_long};
 ghost use Rattle.rules.specs.Fields.{lines_of};
 ghost use Rattle.rules.specs.Library.{names_in as names_of};
 ghost use Rattle.rules.specs.ByLines.{own_names};
+ghost use Rattle.rules.specs.Grammar.{symbol};
+ghost use Rattle.kinds.specs.Kinds.{set_of};
+ghost use Rattle.deck.specs.Coders.{set_code};
+ghost use Rattle.grammar.specs.Kinds.{number_of};
 ghost use Rattle.lent.specs.Splice.{splice};
 ghost use Rattle.names.specs.Names.{names_in};
 ghost use Rattle.declaring.specs.Declared.{symbols_in};
 ghost use Rattle.filling.specs.Added.{Adds};
 ghost use Rattle.collecting.specs.Collected.{Room, Declares, Counted, Prototype, Starts};
 ghost use Rattle.collecting.specs.Bodies.{RoomFor, DeclaresBehind};
+
+use kinds::{Set, Word};
+use line_reader::LineReader;
 
 // How many rows the tables have: of own names, of the names of the macro's GBL statements, and of the library's globals.
 #[derive(Clone, Copy)]
@@ -47,19 +54,19 @@ fn declare_globals(
     kinds: &mut [u8],
     rows: Rows,
     operand: &[u8],
-    set: u8,
+    set: Set,
 ) -> Rows
-    requires { ((rows.global + length operand.now) * 8 ≤ length global.old) × (((rows.shared + length operand.now) * 8 ≤ length shared.old) × ((64 + (rows.shared + length operand.now) ≤ length kinds.old) × ((any is_long (symbols_in operand.now) ≡ false) × (set < 3)))) }
+    requires { ((rows.global + length operand.now) * 8 ≤ length global.old) × (((rows.shared + length operand.now) * 8 ≤ length shared.old) × ((64 + (rows.shared + length operand.now) ≤ length kinds.old) × (any is_long (symbols_in operand.now) ≡ false))) }
     ensures own_value { (result.own ≡ rows.own) × ((result.global ≡ rows.global + length (symbols_in operand.now)) × (result.shared ≤ rows.shared + length (symbols_in operand.now))) }
     ensures global_after { names_in (take (result.global * 8) global.new) ≡ names_in (take (rows.global * 8) global.old) ++ symbols_in operand.now }
-    ensures adds { Adds set shared.old kinds.old rows.shared (symbols_in operand.now) shared.new kinds.new result.shared }
+    ensures adds { Adds (set_code (set_of set)) shared.old kinds.old rows.shared (symbols_in operand.now) shared.new kinds.new result.shared }
 {
     let mine = filling::append_symbols(global, rows.global, operand);
     let theirs = filling::add_globals(shared, kinds, rows.shared, operand, set);
     Rows {
-        own: rows.own,
         global: mine,
         shared: theirs,
+        ..rows
     }
 }
 
@@ -86,24 +93,25 @@ pub fn declare_line(
     let start = cuts.operand;
     let end = cuts.remarks;
     let operand = &line[start..end];
-    if word < 3 {
-        return rows;
-    }
-    if word < 6 {
-        if rows.own == 64 {
-            return rows;
+    match word {
+        Some(Word::Lcl(set)) => {
+            if rows.own == 64 {
+                return rows;
+            }
+            let mine = declare_locals(own, kinds, rows.own, operand, filling::number_of(set));
+            Rows { own: mine, ..rows }
         }
-        let mine = declare_locals(own, kinds, rows.own, operand, (word - 2) as u8);
-        return Rows {
-            own: mine,
-            global: rows.global,
-            shared: rows.shared,
-        };
+        Some(Word::Gbl(set)) => { declare_globals(global, shared, kinds, rows, operand, set) }
+        Some(Word::Macro) => rows,
+        Some(Word::Mend) => rows,
+        Some(Word::Mexit) => rows,
+        Some(Word::Set(_)) => rows,
+        Some(Word::Aif) => rows,
+        Some(Word::Ago) => rows,
+        Some(Word::Anop) => rows,
+        Some(Word::Actr) => rows,
+        None => rows,
     }
-    if word < 9 {
-        return declare_globals(global, shared, kinds, rows, operand, (word - 6) as u8);
-    }
-    rows
 }
 
 // A prototype's parameters, put into the tables; answers how many.
@@ -134,12 +142,9 @@ pub fn declare_body(
     requires { RoomFor (lines_of body.now) rows own.old global.old shared.old kinds.old }
     ensures { DeclaresBehind [] (lines_of body.now) rows own.old global.old shared.old kinds.old result own.new global.new shared.new kinds.new }
 {
-    let mut at = 0;
     let mut count = rows;
-    while at < body.len() {
-        let end = lines::line_end(body, at);
-        count = declare_line(&body[at..end], count, own, global, shared, kinds);
-        at = end + 1;
+    for line in LineReader::new(body) {
+        count = declare_line(line, count, own, global, shared, kinds);
     }
     count
 }

@@ -19,9 +19,16 @@ use Rattle.rules.specs.Grammar.{Kind, parameter, symbol, syslist, sysndx, sysect
 use Rattle.rules.specs.Grammar.{subscripts, reference, referred, deeper, arithmetic, string_within, compared_strings, is_digit_alone, constant_at, compared_numbers, is_flag, element, spaced, negation, conjunction, disjunction, deeper_condition, condition}
 use Rattle.rules.specs.Form.{Nothing, form}
 use Rattle.rules.proofs.Choices.{by, either, chosen, passed_over}
-use Rattle.grammar.specs.declared.Formed.TheVariants.{Deep}
+use Rattle.grammar.specs.declared.Fault.TheVariants.{Deep}
 use Rattle.grammar.specs.Tokens.{tells}
-use Rattle.grammar.specs.Kinds.{number_of, lex_number, kind_number, table_of}
+use Rattle.std.specs.Prelude.{Some, Err}
+use Rattle.std.specs.Option.{option_eq}
+use Rattle.kinds.specs.contracts.KindPartialEq.TheImpl.{eq-value}
+use Rattle.kinds.specs.declared.Set.TheVariants.{B}
+use Rattle.kinds.specs.declared.Kind.TheVariants.{Symbol}
+use Rattle.kinds.specs.declared.Stand.TheVariants.{AfterT, Text}
+use Rattle.kinds.specs.Kinds.{table_of}
+use Rattle.grammar.specs.Kinds.{kind_shown, kind_first}
 use Rattle.grammar.proofs.Chains.{left, left-then, Forward, drop-less, then_same, Chained, chained, forward-chain}
 use Rattle.grammar.proofs.Rules.{Few, got-left, broken-left, left-closed, left-opened, forward-referred, forward-deeper, sums-of, sum_of}
 use Rattle.grammar.proofs.Quotes.{parts-of, strings-of, characters-type, characters-strings}
@@ -95,8 +102,8 @@ module _ (nest : ℕ) (inner : List (Lex Kind) → Got Nothing Kind) where
 
   -- ---- flags
 
-  pub flag_is : (x : List (Lex Kind)) → eqb (kind_number x) 2 ≡ is_flag form nest inner x
-  unfolding is_flag kind_number lex_number number_of form
+  pub flag_is : (x : List (Lex Kind)) → option_eq eq-value.it (kind_first x) (Some (Symbol B)) ≡ is_flag form nest inner x
+  unfolding is_flag kind_first kind_shown form
   flag_is [] = refl
   flag_is (byte c ∷ x) = refl
   flag_is (mark ∷ x) = refl
@@ -114,8 +121,8 @@ module _ (nest : ℕ) (inner : List (Lex Kind) → Got Nothing Kind) where
   flagged r y = got (form.flag r.of) y
 
   -- a flag is a reference that may stand in text
-  flag-reference : (here x : List (Lex Kind)) → is_flag form nest inner x ≡ true → referred form (deeper form nest) (table_of 4) (λ r. some tt) here x ≡ then (reference form (deeper form nest) x) flagged
-  unfolding is_flag form reference referred subscripts then broken given is_empty choose table_of in_text
+  flag-reference : (here x : List (Lex Kind)) → is_flag form nest inner x ≡ true → referred form (deeper form nest) (table_of Text) (λ r. some tt) here x ≡ then (reference form (deeper form nest) x) flagged
+  unfolding is_flag form reference referred subscripts then broken given is_empty choose in_text
   flag-reference here [] e = absurd (true≢false (sym e))
   flag-reference here (byte c ∷ x) e = absurd (true≢false (sym e))
   flag-reference here (mark ∷ x) e = absurd (true≢false (sym e))
@@ -151,7 +158,7 @@ module _ (nest : ℕ) (inner : List (Lex Kind) → Got Nothing Kind) where
       element-strings s = sym (passed_over _ _ no-opening ∙ chosen _ _ (sym quotes ∙ s))
 
       module _ (s : (eqb c 39 || t) ≡ false) where
-        pub element-flag : is_flag form nest inner x ≡ true → referred form (deeper form nest) (table_of 4) (λ r. some tt) x x ≡ element form nest inner x
+        pub element-flag : is_flag form nest inner x ≡ true → referred form (deeper form nest) (table_of Text) (λ r. some tt) x x ≡ element form nest inner x
         unfolding element
         element-flag f = flag-reference x x f ∙ sym (passed_over _ _ no-opening ∙ passed_over _ _ (sym quotes ∙ s) ∙ chosen _ _ f)
 
@@ -187,7 +194,7 @@ forward-arithmetic nest x = rw (← sum_of nest x) (forward-chain (sums-of nest)
 
 forward-string : (nest : ℕ) → Forward (string_within form nest)
 forward-string nest x = by (is_attribute 84 x)
-    (λ e. subst (λ (r : Got Nothing Kind). left r ≤ length x) (characters-type nest x e) (le_trans (forward-referred (deeper form nest) (forward-deeper nest) (table_of 3) x (drop 2 x)) (drop-less 2 x)))
+    (λ e. subst (λ (r : Got Nothing Kind). left r ≤ length x) (characters-type nest x e) (le_trans (forward-referred (deeper form nest) (forward-deeper nest) (table_of AfterT) x (drop 2 x)) (drop-less 2 x)))
     (λ e. subst (λ (r : Got Nothing Kind). left r ≤ length x) (strings-of nest x ∙ characters-strings nest x e) (forward-chain (parts-of nest) x))
 
 module _ (nest : ℕ) (inner : List (Lex Kind) → Got Nothing Kind) where
@@ -215,7 +222,7 @@ module _ (nest : ℕ) (inner : List (Lex Kind) → Got Nothing Kind) where
         (λ e. either (Few _ (length x)) (eqb (plain x) apostrophe || is_attribute 84 x)
         (λ e. le_trans (left-then (string_within form nest x) (in_strings nest inner) (λ s y. le_trans (left-strings (past_spaces y)) (let less = spaces-less y in omega arith))) (forward-string nest x))
         (λ e. either (Few _ (length x)) (is_flag form nest inner x)
-        (λ f. subst (λ (r : Got Nothing Kind). left r ≤ length x) (flag-reference nest inner x x f) (forward-referred (deeper form nest) (forward-deeper nest) (table_of 4) x x))
+        (λ f. subst (λ (r : Got Nothing Kind). left r ≤ length x) (flag-reference nest inner x x f) (forward-referred (deeper form nest) (forward-deeper nest) (table_of Text) x x))
         (λ f. le_trans (left-then (arithmetic form nest x) (compared_numbers form nest inner x) (λ a y. left-numbers x y)) (forward-arithmetic nest x))))
 
     forward-spaced : Forward (spaced form nest inner)
@@ -265,7 +272,7 @@ disjunction-of nest x = disjunction-is nest (deeper_condition form nest) (forwar
 
 -- ---- nesting
 
-pub condition-spent : (from : ℕ → List (Lex Kind)) (nest at : ℕ) → nest ≡ 0 → tells from (Deep at) ≡ deeper_condition form nest (from at)
+pub condition-spent : (from : ℕ → List (Lex Kind)) (nest at : ℕ) → nest ≡ 0 → tells from (Err (Deep at)) ≡ deeper_condition form nest (from at)
 unfolding tells deeper_condition
 condition-spent from nest at h = rw h
 

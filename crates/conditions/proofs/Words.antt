@@ -7,7 +7,7 @@ use mathlib.Core.List.{List, [], ◌∷◌, map}
 use mathlib.Core.Option.{none, some}
 use lib.Dec.{eqb}
 use lib.ListN.{length, take, drop, length-map, length-drop}
-use borrow.Author.Tests.{eq-eqb, ne_eqb, eqb-true, eqb-false}
+use borrow.Author.Tests.{eq-eqb, ne_eqb, eqb-true}
 use Rattle.text.specs.Bytes.{Bytes, bytes, same}
 use Rattle.text.specs.Characters.{letter, digit, letter_or_digit}
 use Rattle.text.proofs.Same.{same-is}
@@ -24,10 +24,6 @@ use Rattle.conditions.specs.Words.{is_relation}
 none-goes-on : letter_or_digit 0 ≡ false
 unfolding letter_or_digit letter digit
 none-goes-on = refl
-
-pub not-letters : (letter_or_digit 78 ≡ true) × ((letter_or_digit 79 ≡ true) × (letter_or_digit 84 ≡ true))
-unfolding letter_or_digit letter
-not-letters = (refl, (refl, refl))
 
 pub not_none : (a : ℕ) → letter_or_digit a ≡ true → 0 < a
 not_none zero h = absurd (true≢false (sym h ∙ none-goes-on))
@@ -77,15 +73,6 @@ toks-length kinds code at = length-map (drop at code) (lex_of kinds) ∙ length-
 
 pub word-inside : (kinds code w : Bytes) (at : ℕ) → is_word w (toks_at kinds code at) ≡ true → 0 < length w → at + length w ≤ length code
 word-inside kinds code w at h long = let short = word-short w (toks_at kinds code at) h in let n = toks-length kinds code at in omega arith
-
--- one lexeme stands between two places, by how many stand from each on
-pub one-between : (n m : ℕ) {h x : ℕ} → n ≡ h → m ≡ x → (n ≡ 0 → ⊥) → eqb (n - 1) m ≡ eqb h (suc x)
-one-between n m {h} {x} e f filled = by (eqb (n - 1) m)
-    (λ g. let same : n - 1 ≡ m = eqb-true (n - 1) m g in g ∙ sym (eq-eqb h (suc x) (omega arith)))
-    (λ g. let other : n - 1 ≡ m → ⊥ = eqb-false (n - 1) m g in g ∙ sym (ne_eqb h (suc x) (λ q. other (omega arith))))
-
-pub none_between : (n x : ℕ) {h : ℕ} → n ≡ h → n ≡ 0 → false ≡ eqb h (suc x)
-none_between n x {h} e f = sym (ne_eqb h (suc x) (λ q. omega arith))
 
 -- ---- relations
 

@@ -1,27 +1,26 @@
 -- What the readers of one thing tell where they return. Assumes nothing.
 use Prim.Native.Nat.{ℕ, suc, ◌+◌, ◌-◌, ◌≤◌, ◌<◌}
 use mathlib.Core.Path.{◌≡◌, refl, sym, ap, ◌∙◌}
-use mathlib.Core.Bool.{Bool, true, false, true≢false}
+use mathlib.Core.Bool.{true, false, true≢false}
 use mathlib.Core.List.{[], ◌∷◌, map}
 use mathlib.Core.Option.{Option, none, some}
 use native.Mathlib.Omega.{arith}
 use native.Mathlib.Numerals.{add-one}
 use lib.Dec.{eqb, ltb}
-use lib.ListN.{length, get_or, take, drop, drop_of_length-le}
+use lib.ListN.{length, get_or, drop, drop_of_length-le}
 use lib.Seq.{drop-cons}
 use borrow.Author.Tests.{ltb-true, ltb-false, le-ltb, eqb-true, eqb-false, ne_eqb}
 use Rattle.text.specs.Bytes.{Bytes}
 use Rattle.rules.specs.Choice.{choose, every}
 use Rattle.rules.specs.Lexemes.{Lex}
 use Rattle.rules.specs.Statement.{Set}
-use Rattle.rules.proofs.Choices.{either}
+use Rattle.rules.proofs.Choices.{by, either}
 use Rattle.deck.specs.Coding.{after, get_byte, byte as a_byte, two, made, via, list_of}
 use Rattle.deck.specs.Slots.{Slot}
 use Rattle.deck.specs.Coders.{lex_of, lexeme, field, string, set_of, kind, flag_of, flag}
-use Rattle.deck_reading.specs.Reading.{or_lone, slot_lex, two_at, run_at, run_found, field_at, flag_at, or_first, set_at, kinds_at, reads}
-use Rattle.deck_reading.specs.declared.Read.{Read}
-use Rattle.deck_reading.specs.declared.Read.TheVariants.{To, Bad}
-use Rattle.deck_reading.proofs.Runs.{two-there, two-missing, OneByte, not_found, found-good, found-bad}
+use Rattle.deck_reading.specs.Reading.{or_lone, slot_lex, two_at, run_at, found, run_found, below_found, field_at, flag_at, or_first, set_at, kinds_at, sets_found, does_found, reads}
+use Rattle.std.specs.Prelude.{Option as Found, Some, None}
+use Rattle.deck_reading.proofs.Runs.{two-there, two-missing, found-is, found-in, found-out, OneByte, not_found, found-good, below-read}
 
 -- ---- bytes of strings, lexemes and kinds
 
@@ -78,75 +77,66 @@ pub map_same : (s : Bytes) → map (λ (b : ℕ). b) s ≡ s
 map_same [] = refl
 map_same (b ∷ s) = ap (λ t. b ∷ t) (map_same s)
 
-pub all-good : (s : Bytes) → true ≡ every (λ (b : ℕ). true) s
+all-good : (s : Bytes) → every (λ (b : ℕ). true) s ≡ true
 unfolding every
 all-good [] = refl
 all-good (b ∷ s) = all-good s
 
 module _ (s : Bytes) (at : ℕ) where
   -- ---- strings
-  pub string-read : (r : Read) → r ≡ run_found s at → reads (run_at s at) s r ≡ string.get (drop at s)
+  pub string-read : (r : Found ℕ) → r ≡ run_found s at → reads (run_at s at) s r ≡ string.get (drop at s)
   unfolding reads string
-  string-read (To n) e =
-      ap (λ (t : Bytes). some (t, drop n s)) (sym (map_same (run_at s at))) ∙ found-good byte_one s at e (all-good (take (n - (at + 2)) (drop (at + 2) s))) refl
-  string-read Bad e = not_found byte_one s at e
+  string-read (Some n) e =
+      ap (λ (t : Bytes). some (t, drop n s)) (sym (map_same (run_at s at))) ∙ found-good byte_one s at e (all-good (run_at s at))
+  string-read None e = not_found byte_one s at e
 
-  -- ---- fields
-  pub field-not : Bad ≡ run_found s at → reads (field_at s at) s Bad ≡ field.get (drop at s)
-  unfolding reads field
-  field-not e = not_found lexeme-one s at e
+  -- ---- fields and kinds
+  pub field-read : (r : Found ℕ) → r ≡ below_found 227 s at → reads (field_at s at) s r ≡ field.get (drop at s)
+  unfolding field field_at
+  field-read r e = ap (reads (map slot_lex (run_at s at)) s) e ∙ below-read 227 lexeme-one s at
 
-  module _ {end : ℕ} (e : To end ≡ run_found s at) {b : Bool} (t : b ≡ every (λ b. ltb b 227) (take (end - (at + 2)) (drop (at + 2) s))) where
-    pub field-good : b ≡ true → reads (field_at s at) s (To end) ≡ field.get (drop at s)
-    unfolding reads field field_at
-    field-good f = found-good lexeme-one s at e t f
-
-    pub field-bad : b ≡ false → reads (field_at s at) s Bad ≡ field.get (drop at s)
-    unfolding reads field
-    field-bad f = found-bad lexeme-one s at e t f
-
-  -- ---- kinds
-  pub kinds-not : Bad ≡ run_found s at → reads (kinds_at s at) s Bad ≡ (list_of kind).get (drop at s)
-  unfolding reads
-  kinds-not e = not_found kind-one s at e
-
-  module _ {end : ℕ} (e : To end ≡ run_found s at) {b : Bool} (t : b ≡ every (λ b. ltb b 3) (take (end - (at + 2)) (drop (at + 2) s))) where
-    pub kinds-good : b ≡ true → reads (kinds_at s at) s (To end) ≡ (list_of kind).get (drop at s)
-    unfolding reads kinds_at
-    kinds-good f = found-good kind-one s at e t f
-
-    pub kinds-bad : b ≡ false → reads (kinds_at s at) s Bad ≡ (list_of kind).get (drop at s)
-    unfolding reads
-    kinds-bad f = found-bad kind-one s at e t f
+  pub kinds-read : (r : Found ℕ) → r ≡ below_found 3 s at → reads (kinds_at s at) s r ≡ (list_of kind).get (drop at s)
+  unfolding kinds_at
+  kinds-read r e = ap (reads (map set_at (run_at s at)) s) e ∙ below-read 3 kind-one s at
 
   -- ---- numbers
-  pub two-not : length s - at < 2 → reads (two_at s at) s Bad ≡ two.get (drop at s)
+  pub two-read : (r : Found ℕ) → r ≡ found s (at + 2) → reads (two_at s at) s r ≡ two.get (drop at s)
   unfolding reads
-  two-not h = sym (two-missing s at h)
-
-  pub two-read : at + 2 ≤ length s → reads (two_at s at) s (To (at + 2)) ≡ two.get (drop at s)
-  unfolding reads
-  two-read h = sym (two-there s at (omega arith))
+  two-read (Some n) e = let h : at + 2 ≤ length s = found-in s e in ap (λ (i : ℕ). some (two_at s at, drop i s)) (found-is s e) ∙ sym (two-there s at (omega arith))
+  two-read None e = let h : length s < at + 2 = found-out s e in let k : length s - at < 2 = omega arith in sym (two-missing s at k)
 
   -- ---- yes or no
-  pub flag-not : length s ≤ at → reads (flag_at s at) s Bad ≡ flag.get (drop at s)
-  unfolding reads flag via a_byte get_byte after
-  flag-not h = rw (drop_of_length-le s h)
+  flag-there : at < length s → flag.get (drop at s) ≡ made (flag_of (get_or s at 0)) (drop (at + 1) s)
+  unfolding flag via a_byte get_byte after
+  flag-there h = let e : at + 1 ≡ suc at = add-one at in rw (drop-cons s at 0 h, e)
 
-  module _ (h : at < length s) where
-    flag-there : flag.get (drop at s) ≡ made (flag_of (get_or s at 0)) (drop (at + 1) s)
-    unfolding flag via a_byte get_byte after
-    flag-there = let e : at + 1 ≡ suc at = add-one at in rw (drop-cons s at 0 h, e)
+  flag-missing : length s ≤ at → none ≡ flag.get (drop at s)
+  unfolding flag via a_byte get_byte after
+  flag-missing h = rw (drop_of_length-le s h)
 
-    pub flag-bad : 1 < get_or s at 0 → reads (flag_at s at) s Bad ≡ flag.get (drop at s)
-    unfolding reads flag_of choose made
-    flag-bad k =
-        let x = ne_eqb (get_or s at 0) 0 (λ e. omega (arith, e)) in
-        let y = ne_eqb (get_or s at 0) 1 (λ e. omega (arith, e)) in
-        sym (flag-there ∙ rw (x, y))
+  pub flag-bad : 1 < get_or s at 0 → reads (flag_at s at) s None ≡ flag.get (drop at s)
+  unfolding reads flag_of choose made
+  flag-bad k =
+      let x = ne_eqb (get_or s at 0) 0 (λ e. omega (arith, e)) in
+      let y = ne_eqb (get_or s at 0) 1 (λ e. omega (arith, e)) in
+      by (ltb at (length s)) (λ h. sym (flag-there (ltb-true at (length s) h) ∙ rw (x, y))) (λ h. flag-missing (ltb-false at (length s) h))
 
-    pub flag-read : get_or s at 0 ≤ 1 → reads (flag_at s at) s (To (at + 1)) ≡ flag.get (drop at s)
-    unfolding reads flag_at flag_of choose made
-    flag-read k = sym (flag-there ∙ either (λ o. made o (drop (at + 1) s) ≡ some (eqb (get_or s at 0) 1, drop (at + 1) s)) (eqb (get_or s at 0) 0)
-        (λ e. let z : eqb (get_or s at 0) 1 ≡ false = ne_eqb (get_or s at 0) 1 (λ f. omega (arith, f, eqb-true (get_or s at 0) 0 e)) in rw z)
-        λ e. let x = eqb-false (get_or s at 0) 0 e in let one : get_or s at 0 ≡ 1 = omega (arith, x) in rw one)
+  pub flag-read : (r : Found ℕ) → r ≡ found s (at + 1) → get_or s at 0 ≤ 1 → reads (flag_at s at) s r ≡ flag.get (drop at s)
+  unfolding reads flag_at flag_of choose made
+  flag-read (Some n) e k =
+      let h : at + 1 ≤ length s = found-in s e in
+      let l : at < length s = omega arith in
+      ap (λ (i : ℕ). some (eqb (get_or s at 0) 1, drop i s)) (found-is s e)
+      ∙ sym (flag-there l ∙ either (λ o. made o (drop (at + 1) s) ≡ some (eqb (get_or s at 0) 1, drop (at + 1) s)) (eqb (get_or s at 0) 0)
+      (λ e. let z : eqb (get_or s at 0) 1 ≡ false = ne_eqb (get_or s at 0) 1 (λ f. omega (arith, f, eqb-true (get_or s at 0) 0 e)) in rw z)
+      λ e. let x = eqb-false (get_or s at 0) 0 e in let one : get_or s at 0 ≡ 1 = omega (arith, x) in rw one)
+  flag-read None e k = let h : length s < at + 1 = found-out s e in let l : length s ≤ at = omega arith in flag-missing l
+
+-- ---- what a line does
+
+pub no-does : (k : ℕ) → 11 ≤ k → None ≡ does_found k
+unfolding does_found sets_found choose
+no-does k h =
+    let x : 3 ≤ k - 8 = omega arith in
+    let n : (i : ℕ) → i < 11 → eqb k i ≡ false = λ i l. ne_eqb k i (λ e. omega (arith, e)) in
+    rw (n 0 (omega arith), n 1 (omega arith), n 2 (omega arith), n 3 (omega arith), n 4 (omega arith), n 5 (omega arith), n 6 (omega arith), n 7 (omega arith), set-none (k - 8) x) refl

@@ -5,19 +5,18 @@ use mathlib.Core.Bool.{Bool, true, false, ◌&&◌, true≢false}
 use mathlib.Core.List.{List, [], ◌∷◌, map}
 use mathlib.Core.Option.{Option, none, some}
 use native.Mathlib.Omega.{arith}
-use native.Mathlib.Numerals.{add-one}
-use lib.Dec.{leb}
-use lib.ListN.{length, get_or, take, drop, length-drop, drop_of_length-le, get_or-eq_default}
+use lib.Dec.{leb, ltb}
+use lib.ListN.{length, get_or, take, drop, length-drop}
 use lib.Seq.{drop-cons, drop-drop, get_or-drop}
 use borrow.Author.Tests.{leb-true, leb-false, le-leb, lt-leb}
 use Rattle.text.specs.Bytes.{Bytes}
 use Rattle.rules.specs.Choice.{choose, every}
-use Rattle.rules.proofs.Choices.{by, chosen, passed_over, and_left, and_right}
+use Rattle.rules.proofs.Choices.{by, either, chosen, passed_over, and_left, and_right}
 use Rattle.deck.specs.Coding.{after, Coder, get_byte, two, get_all, list_of}
 use Rattle.spans.specs.Spans.{part_of}
-use Rattle.deck_reading.specs.Reading.{two_at, run_at, run_end, is_there, run_found}
-use Rattle.deck_reading.specs.declared.Read.{Read}
-use Rattle.deck_reading.specs.declared.Read.TheVariants.{To, Bad}
+use Rattle.std.specs.Prelude.{Option as Found, Some, None}
+use Rattle.std.specs.Bool.{then_some}
+use Rattle.deck_reading.specs.Reading.{two_at, run_at, run_end, found, is_there, run_found, below_found, reads}
 
 -- ---- numbers of two bytes
 
@@ -38,13 +37,6 @@ two-missing s at h = cases (drop at s) (rw (length-drop at s) h)
     cases [] k = refl
     cases (a ∷ []) k = refl
     cases (a ∷ (b ∷ t)) k = absurd (omega arith)
-
--- a number that is not there is 0
-pub two-behind : (s : Bytes) (at : ℕ) → length s ≤ at → 0 ≡ two_at s at
-unfolding two_at
-two-behind s at h =
-    let k : length s ≤ at + 1 = omega arith in
-    rw (get_or-eq_default s 0 h, get_or-eq_default s 0 k)
 
 -- what is read at a place depends on the bytes from there on alone
 module _ (s : Bytes) (m n : ℕ) (e : drop m s ≡ drop n s) where
@@ -75,53 +67,79 @@ module _ (s : Bytes) (m n : ℕ) (e : drop m s ≡ drop n s) where
 
 -- ---- a run that is there
 
-end_of : Read → ℕ
-end_of (To n) = n
-end_of Bad = 0
+end_of : Found ℕ → ℕ
+end_of (Some n) = n
+end_of None = 0
 
-unfoldable pub is_to : Read → Bool
-is_to (To n) = true
-is_to Bad = false
+unfoldable pub is_to : Found ℕ → Bool
+is_to (Some n) = true
+is_to None = false
+
+module _ (s : Bytes) {n : ℕ} where
+  pub found-is : {m : ℕ} → Some m ≡ found s n → m ≡ n
+  unfolding found is_to end_of
+  found-is {m} e = by (leb n (length s))
+      (λ h. ap end_of (e ∙ chosen (Some n) None h))
+      (λ h. absurd (true≢false (ap is_to (e ∙ passed_over (Some n) None h))))
+
+  pub found-in : {m : ℕ} → Some m ≡ found s n → n ≤ length s
+  unfolding found is_to
+  found-in {m} e = by (leb n (length s))
+      (λ h. leb-true n (length s) h)
+      (λ h. absurd (true≢false (ap is_to (e ∙ passed_over (Some n) None h))))
+
+  pub found-out : None ≡ found s n → length s < n
+  unfolding found is_to
+  found-out e = by (leb n (length s))
+      (λ h. absurd (true≢false (sym (ap is_to (e ∙ chosen (Some n) None h)))))
+      (λ h. leb-false n (length s) h)
+
+  -- a place that no number is, and one by the test of the code
+  pub place-over : length s < 18446744073709551616 → (n < 18446744073709551616 → ⊥) → None ≡ found s n
+  unfolding found
+  place-over l h = let k : length s < n = omega (arith, h) in sym (passed_over (Some n) None (lt-leb n (length s) k))
+
+  pub place-told : {m : ℕ} → m ≡ n → then_some (leb m (length s)) m ≡ found s n
+  unfolding found choose
+  place-told e = rw e (either (λ o. then_some (leb n (length s)) n ≡ o) (leb n (length s)) (λ h. rw h) (λ h. rw h))
+
+-- two bytes, where they stand
+pub two-from : (s : Bytes) (at : ℕ) {a b : ℕ} {rest : Bytes} → a ≡ get_or rest 0 0 → b ≡ get_or rest 1 0 → rest ≡ drop at s → a * 256 + b ≡ two_at s at
+unfolding two_at
+two-from s at ea eb e =
+    let x : at + 0 ≡ at = omega arith in
+    let p = ea ∙ (ap (λ (t : Bytes). get_or t 0 0) e ∙ (get_or-drop at s 0 0 ∙ ap (λ (i : ℕ). get_or s i 0) x)) in
+    let q = eb ∙ (ap (λ (t : Bytes). get_or t 1 0) e ∙ get_or-drop at s 1 0) in
+    λ j. p j * 256 + q j
 
 module _ (s : Bytes) (at : ℕ) where
-  -- what the code has seen where it gives up
-  pub cut_off : length s - at < 2 → Bad ≡ run_found s at
+  -- a run's bytes are found behind its count
+  pub cut_off : None ≡ found s (at + 2) → None ≡ run_found s at
   unfolding run_found is_there
-  cut_off h = let k : length s < at + 2 = omega arith in sym (ap (λ (b : Bool). choose (b && leb (run_end s at) (length s)) (To (run_end s at)) Bad) (lt-leb (at + 2) (length s) k) ∙ passed_over _ _ refl)
+  cut_off e = let h : length s < at + 2 = found-out s e in sym (ap (λ (b : Bool). choose (b && leb (run_end s at) (length s)) (Some (run_end s at)) None) (lt-leb (at + 2) (length s) h) ∙ passed_over _ _ refl)
 
-  module _ {n : ℕ} (e : n ≡ two_at s at) (h : at + 2 ≤ length s) where
-    there-is : is_there s at ≡ leb (run_end s at) (length s)
-    unfolding is_there
-    there-is = ap (λ (b : Bool). b && leb (run_end s at) (length s)) (le-leb _ _ h)
-
-    pub too_few : length s - (at + 2) < n → Bad ≡ run_found s at
-    unfolding run_found run_end
-    too_few k = let l : length s < at + 2 + two_at s at = omega (arith, e) in sym (passed_over _ _ (there-is ∙ lt-leb _ _ l))
-
-    pub all_there : n ≤ length s - (at + 2) → To (at + 2 + n) ≡ run_found s at
-    unfolding run_found run_end
-    all_there k = let l : at + 2 + two_at s at ≤ length s = omega (arith, e) in ap (λ (i : ℕ). To (at + 2 + i)) e ∙ sym (chosen _ _ (there-is ∙ le-leb _ _ l))
+  pub goes_on : {m : ℕ} → Some m ≡ found s (at + 2) → found s (m + two_at s at) ≡ run_found s at
+  unfolding run_found is_there run_end found
+  goes_on {m} e =
+      let h : at + 2 ≤ length s = found-in s e in
+      ap (λ (i : ℕ). found s (i + two_at s at)) (found-is s e)
+      ∙ sym (ap (λ (b : Bool). choose (b && leb (at + 2 + two_at s at) (length s)) (Some (at + 2 + two_at s at)) None) (le-leb (at + 2) (length s) h))
 
   pub record There (end : ℕ) : Type 0 where
     pub behind-count : at + 2 ≤ length s
     pub behind-run : end ≤ length s
-    pub behind : at + 2 ≤ end
     pub is-end : end ≡ run_end s at
 
-  pub found-there : {end : ℕ} → To end ≡ run_found s at → There end
+  pub found-there : {end : ℕ} → Some end ≡ run_found s at → There end
   unfolding run_found is_there run_end end_of is_to
   found-there {end} e = by (is_there s at)
       (λ h. let is : end ≡ run_end s at = ap end_of (e ∙ chosen _ _ h) in record {
         behind-count = leb-true (at + 2) (length s) (first h);
         behind-run = rw is (leb-true (run_end s at) (length s) (second h));
-        behind = rw is far;
         is-end = is;
       })
       (λ h. absurd (true≢false (ap is_to (e ∙ passed_over _ _ h))))
     where
-      far : at + 2 ≤ run_end s at
-      far = omega arith
-
       first : is_there s at ≡ true → leb (at + 2) (length s) ≡ true
       first h = and_left _ _ h
 
@@ -169,11 +187,11 @@ module _ {A : Type 0} {c : Coder A} {good : ℕ → Bool} {value : ℕ → A} (o
     counted h = ap (λ r. after r λ n t. get_all c n t) (two-there s at (omega arith))
 
     -- no run, nothing read
-    pub not_found : Bad ≡ run_found s at → none ≡ (list_of c).get (drop at s)
+    pub not_found : None ≡ run_found s at → none ≡ (list_of c).get (drop at s)
     unfolding run_found is_there run_end is_to
     not_found e = by (leb (at + 2) (length s))
         (λ h. by (leb (run_end s at) (length s))
-        (λ k. absurd (true≢false (sym (ap is_to (e ∙ chosen (To (run_end s at)) Bad (both h k))))))
+        (λ k. absurd (true≢false (sym (ap is_to (e ∙ chosen (Some (run_end s at)) None (both h k))))))
         (λ k. short (leb-true (at + 2) (length s) h) (leb-false (run_end s at) (length s) k)))
         (λ h. let x = leb-false (at + 2) (length s) h in let y : length s - at < 2 = omega arith in none-there y)
       where
@@ -184,38 +202,32 @@ module _ {A : Type 0} {c : Coder A} {good : ℕ → Bool} {value : ℕ → A} (o
         short h k = sym (counted h ∙ too_short (two_at s at) (drop (at + 2) s) (rw (length-drop (at + 2) s) (omega arith)))
 
     -- a run, by its bytes
-    module _ {end : ℕ} (e : To end ≡ run_found s at) {b : Bool} (t : b ≡ every good (take (end - (at + 2)) (drop (at + 2) s))) where
+    module _ {end : ℕ} (e : Some end ≡ run_found s at) where
       there : There s at end
       there = found-there s at e
-
-      size : end - (at + 2) ≡ two_at s at
-      unfolding run_end
-      size = let x = there.is-end in omega arith
 
       enough : two_at s at ≤ length (drop (at + 2) s)
       unfolding run_end
       enough = let x = there.is-end in let y = there.behind-run in rw (length-drop (at + 2) s) (omega arith)
 
-      cut : every good (take (two_at s at) (drop (at + 2) s)) ≡ b
-      cut = ap (λ (n : ℕ). every good (take n (drop (at + 2) s))) (sym size) ∙ sym t
-
-      pub found-good : b ≡ true → some (map value (run_at s at), drop end s) ≡ (list_of c).get (drop at s)
+      pub found-good : every good (run_at s at) ≡ true → some (map value (run_at s at), drop end s) ≡ (list_of c).get (drop at s)
       unfolding run_at part_of run_end
       found-good f =
-          sym (counted there.behind-count ∙ (all_read (two_at s at) (drop (at + 2) s) enough (cut ∙ f)
+          sym (counted there.behind-count ∙ (all_read (two_at s at) (drop (at + 2) s) enough f
           ∙ ap (λ u. some (map value (take (two_at s at) (drop (at + 2) s)), u)) (drop-drop (two_at s at) (at + 2) s ∙ ap (λ (i : ℕ). drop i s) (sym there.is-end))))
 
-      pub found-bad : b ≡ false → none ≡ (list_of c).get (drop at s)
-      found-bad f = sym (counted there.behind-count ∙ one-bad (two_at s at) (drop (at + 2) s) enough (cut ∙ f))
+      pub found-bad : every good (run_at s at) ≡ false → none ≡ (list_of c).get (drop at s)
+      unfolding run_at part_of
+      found-bad f = sym (counted there.behind-count ∙ one-bad (two_at s at) (drop (at + 2) s) enough f)
 
     -- where a run that was read ends
     pub read-ends : {x : List A} {u : Bytes} → some (x, u) ≡ (list_of c).get (drop at s) → u ≡ drop (run_end s at) s
     unfolding run_found
     read-ends {x} {u} e = by (is_there s at)
-        (λ h. let f = sym (chosen (To (run_end s at)) Bad h) in
-        by (every good (take (run_end s at - (at + 2)) (drop (at + 2) s)))
-        (λ g. ap rest (e ∙ sym (found-good f (sym g) refl)))
-        (λ g. absurd (true≢false (ap is_some (e ∙ sym (found-bad f (sym g) refl))))))
+        (λ h. let f = sym (chosen (Some (run_end s at)) None h) in
+        by (every good (run_at s at))
+        (λ g. ap rest (e ∙ sym (found-good f g)))
+        (λ g. absurd (true≢false (ap is_some (e ∙ sym (found-bad f g))))))
         (λ h. absurd (true≢false (ap is_some (e ∙ sym (not_found (sym (passed_over _ _ h)))))))
       where
         rest : Option (List A × Bytes) → Bytes
@@ -226,20 +238,18 @@ module _ {A : Type 0} {c : Coder A} {good : ℕ → Bool} {value : ℕ → A} (o
         is_some none = false
         is_some (some r) = true
 
--- ---- every byte from a place on
+-- a run of bytes below a limit is what a list of such things is read from
+module _ {A : Type 0} {c : Coder A} {value : ℕ → A} (limit : ℕ) (o : OneByte c (λ b. ltb b limit) value) (s : Bytes) (at : ℕ) where
+  pub below-read : reads (map value (run_at s at)) s (below_found limit s at) ≡ (list_of c).get (drop at s)
+  unfolding below_found reads
+  below-read = by (every (λ b. ltb b limit) (run_at s at))
+      (λ g. ap (reads (map value (run_at s at)) s) (chosen (run_found s at) None g) ∙ there (run_found s at) refl g)
+      (λ g. ap (reads (map value (run_at s at)) s) (passed_over (run_found s at) None g) ∙ bad (run_found s at) refl g)
+    where
+      there : (r : Found ℕ) → r ≡ run_found s at → every (λ b. ltb b limit) (run_at s at) ≡ true → reads (map value (run_at s at)) s r ≡ (list_of c).get (drop at s)
+      there (Some n) e g = found-good o s at e g
+      there None e g = not_found o s at e
 
-module _ (test : ℕ → Bool) (l : Bytes) (i : ℕ) where
-  pub every-done : length l ≤ i → every test (drop i l) ≡ true
-  unfolding every
-  every-done h = ap (every test) (drop_of_length-le l h)
-
-  module _ (h : i < length l) where
-    every-on : every test (drop i l) ≡ (test (get_or l i 0) && every test (drop (i + 1) l))
-    unfolding every
-    every-on = ap (every test) (drop-cons l i 0 h) ∙ (λ j. test (get_or l i 0) && every test (drop (sym (add-one i) j) l))
-
-    pub every-stop : test (get_or l i 0) ≡ false → every test (drop i l) ≡ false
-    every-stop e = every-on ∙ ap (λ (b : Bool). b && every test (drop (i + 1) l)) e
-
-    pub every-next : test (get_or l i 0) ≡ true → every test (drop i l) ≡ every test (drop (i + 1) l)
-    every-next e = every-on ∙ ap (λ (b : Bool). b && every test (drop (i + 1) l)) e
+      bad : (r : Found ℕ) → r ≡ run_found s at → every (λ b. ltb b limit) (run_at s at) ≡ false → none ≡ (list_of c).get (drop at s)
+      bad (Some n) e g = found-bad o s at e g
+      bad None e g = not_found o s at e

@@ -7,7 +7,7 @@ use mathlib.Core.Option.{Option, none, some}
 use native.Mathlib.Omega.{arith}
 use native.Mathlib.Numerals.{add-one}
 use lib.Dec.{eqb, leb}
-use lib.ListN.{length, get_or, take, drop, drop_of_length-le}
+use lib.ListN.{length, get_or, drop, drop_of_length-le}
 use lib.Seq.{drop-cons}
 use borrow.Author.Tests.{leb-true, leb-false, eqb-true, ne_eqb}
 use Rattle.text.specs.Bytes.{Bytes}
@@ -20,7 +20,7 @@ use Rattle.deck.specs.Slots.{Slot, DeckMacro}
 use Rattle.deck.specs.Coders.{field, string, set_of, kind, flag_of, flag, line, get_line_by, get_text, get_models, get_branch_if, get_branch, get_counts, get_sets, sets_line, Parts, macro, macro_of, deck_from, contents}
 use Rattle.deck_reading.specs.Reading.{two_at, run_at, run_end, is_there, run_found, field_at, flag_at, set_at, or_first, kinds_at, keyword_at, fields_line, line_by, line_at}
 use Rattle.deck_reading.specs.Heads.{things_from, place_of, list_at, list_end, keyword_end, line_end_by, line_end, keywords_place, locals_place, body_place, macro_at, macro_end}
-use Rattle.deck_reading.specs.declared.Read.TheVariants.{To, Bad}
+use Rattle.std.specs.Prelude.{Some, None}
 use Rattle.deck_reading.proofs.Runs.{two-there, two-missing, OneByte, not_found, found-good, found-bad}
 use Rattle.deck_reading.proofs.Readers.{lexeme-one, kind-one, byte_one, map_same}
 
@@ -61,10 +61,10 @@ module _ {A : Type 0} {c : Coder A} {good : ℕ → Bool} {value : ℕ → A} (o
   total-run : Total (list_of c).get (λ s at. map value (run_at s at)) run_end
   unfolding Is run_found
   total-run s at = by (is_there s at)
-      (λ h. let f = sym (chosen (To (run_end s at)) Bad h) in by (every good (take (run_end s at - (at + 2)) (drop (at + 2) s)))
-      (λ g. rw (sym (found-good o s at f (sym g) refl)) refl)
-      (λ g. rw (sym (found-bad o s at f (sym g) refl)) refl))
-      (λ h. rw (sym (not_found o s at (sym (passed_over (To (run_end s at)) Bad h)))) refl)
+      (λ h. let f = sym (chosen (Some (run_end s at)) None h) in by (every good (run_at s at))
+      (λ g. rw (sym (found-good o s at f g)) refl)
+      (λ g. rw (sym (found-bad o s at f g)) refl))
+      (λ h. rw (sym (not_found o s at (sym (passed_over (Some (run_end s at)) None h)))) refl)
 
 pub total-field : Total field.get field_at run_end
 unfolding field field_at

@@ -1,17 +1,17 @@
 -- A deck's lines where they stand in its bytes: total, so that they are read again without a test once the deck is known to be in good form.
-use Rattle.std.specs.Prelude.{ℕ, ◌+◌, ◌*◌, ◌-◌, Bool, ◌&&◌, List, [], map, eqb, leb, length, get_or, drop}
+use Rattle.std.specs.Prelude.{ℕ, ◌+◌, ◌*◌, ◌-◌, Bool, ◌&&◌, List, [], map, eqb, leb, ltb, length, get_or, drop, Option as Found, Some, None}
 use Rattle.std.proofs.Math.Option.{Option, none, some}
 use Rattle.text.specs.Bytes.{Bytes}
-use Rattle.rules.specs.Choice.{choose}
+use Rattle.rules.specs.Choice.{choose, every}
 use Rattle.rules.specs.Lexemes.{Lex, lone}
 use Rattle.rules.specs.Statement.{Set, set_a, Line, Does, passes, ends, exits, text, models, sets, branches_if, branches, counts, doing}
-use Rattle.deck.specs.Coding.{Coder}
 use Rattle.deck.specs.Slots.{Slot}
 use Rattle.deck.specs.Coders.{lex_of, set_of, passes_code, ends_code, exits_code, text_code, models_code, branches_if_code, branches_code, counts_code, sets_code}
 use Rattle.spans.specs.Spans.{part_of}
+use Rattle.kinds.specs.Kinds.{set_for, set_of as meant}
+use Rattle.kinds.specs.declared.Does.{Does as Kept}
+use Rattle.kinds.specs.declared.Does.TheVariants.{Passes, Ends, Exits, Text, Models, BranchesIf, Branches, Counts, Sets}
 use Rattle.deck_reading.specs.declared.Fields.{Fields}
-use Rattle.deck_reading.specs.declared.Read.{Read}
-use Rattle.deck_reading.specs.declared.Read.TheVariants.{To, Bad}
 
 -- the lexeme of a byte; what is none is an ampersand left over, which no field in good form has
 unfoldable pub or_lone : Option (Lex Slot) → Lex Slot
@@ -34,12 +34,20 @@ run_end s at = at + 2 + two_at s at
 unfoldable pub field_at : Bytes → ℕ → List (Lex Slot)
 field_at s at = map slot_lex (run_at s at)
 
+-- a place that is not behind the end
+unfoldable pub found : Bytes → ℕ → Found ℕ
+found s n = choose (leb n (length s)) (Some n) None
+
 -- whether the run is all there, and where it then ends
 unfoldable pub is_there : Bytes → ℕ → Bool
 is_there s at = leb (at + 2) (length s) && leb (run_end s at) (length s)
 
-unfoldable pub run_found : Bytes → ℕ → Read
-run_found s at = choose (is_there s at) (To (run_end s at)) Bad
+unfoldable pub run_found : Bytes → ℕ → Found ℕ
+run_found s at = choose (is_there s at) (Some (run_end s at)) None
+
+-- where it ends if each of its bytes is below a limit
+unfoldable pub below_found : ℕ → Bytes → ℕ → Found ℕ
+below_found limit s at = choose (every (λ b. ltb b limit) (run_at s at)) (run_found s at) None
 
 -- a yes or no, and the kinds of SET symbols; a byte that is none of the three is taken as SETA's
 unfoldable pub flag_at : Bytes → ℕ → Bool
@@ -79,34 +87,37 @@ unfoldable pub line_at : Bytes → ℕ → Line Slot ℕ
 line_at s at = line_by (get_or s at 0) s (at + 1)
 
 -- what a reader's answer says of a thing that it has read: it, and the bytes from the place on
-unfoldable pub reads : {A : Type 0} → A → Bytes → Read → Option (A × Bytes)
-reads a s (To n) = some (a, drop n s)
-reads a s Bad = none
+unfoldable pub reads : {A : Type 0} → A → Bytes → Found ℕ → Option (A × Bytes)
+reads a s (Some n) = some (a, drop n s)
+reads a s None = none
 
--- a reader that goes on where another stopped, or is not asked
-unfoldable pub field_from : Bytes → Read → List (Lex Slot)
-field_from s (To n) = field_at s n
-field_from s Bad = []
+-- what a line with this first byte does, if there is one
+unfoldable pub sets_found : Option Set → Found Kept
+sets_found none = None
+sets_found (some k) = Some (Sets (set_for k))
 
-unfoldable pub run_from : Bytes → Read → Bytes
-run_from s (To n) = run_at s n
-run_from s Bad = []
-
-unfoldable pub get_from : {A : Type 0} → Coder A → Bytes → Read → Option (A × Bytes)
-get_from c s (To n) = c.get (drop n s)
-get_from c s Bad = none
+unfoldable pub does_found : ℕ → Found Kept
+does_found k =
+    choose (eqb k passes_code) (Some Passes)
+    (choose (eqb k ends_code) (Some Ends)
+    (choose (eqb k exits_code) (Some Exits)
+    (choose (eqb k text_code) (Some Text)
+    (choose (eqb k models_code) (Some Models)
+    (choose (eqb k branches_if_code) (Some BranchesIf)
+    (choose (eqb k branches_code) (Some Branches) (choose (eqb k counts_code) (Some Counts) (sets_found (set_of (k - sets_code))))))))))
 
 -- ---- a line by the places of its fields; a field that it does not have stands at the end, where nothing is
 
-unfoldable pub does_by : ℕ → Bytes → ℕ → Does ℕ
-does_by k s at =
-    choose (eqb k passes_code) passes
-    (choose (eqb k ends_code) ends
-    (choose (eqb k exits_code) exits
-    (choose (eqb k text_code) (text (run_at s at))
-    (choose (eqb k models_code) models
-    (choose (eqb k branches_if_code) (branches_if (two_at s at))
-    (choose (eqb k branches_code) (branches (two_at s at)) (choose (eqb k counts_code) counts (sets (set_at (k - sets_code))))))))))
+unfoldable pub does_in : Kept → Bytes → ℕ → Does ℕ
+does_in Passes s at = passes
+does_in Ends s at = ends
+does_in Exits s at = exits
+does_in Text s at = text (run_at s at)
+does_in Models s at = models
+does_in BranchesIf s at = branches_if (two_at s at)
+does_in Branches s at = branches (two_at s at)
+does_in Counts s at = counts
+does_in (Sets k) s at = sets (meant k)
 
 unfoldable pub line_in : Bytes → Fields → Line Slot ℕ
-line_in s f = fields_line (does_by f.does s f.first) (field_at s f.name) (field_at s f.operation) (field_at s f.operand)
+line_in s f = fields_line (does_in f.does s f.first) (field_at s f.name) (field_at s f.operation) (field_at s f.operand)

@@ -1,236 +1,183 @@
 // A deck's heads and lines, read from its bytes.
 #![tactic(auto)]
 
-ghost use Rattle.std.specs.Prelude.{◌≡◌, ◌+◌, ◌<◌, ltb, drop};
-ghost use Rattle.rules.specs.Choice.{every};
+ghost use Rattle.std.specs.Prelude.{◌≡◌, ◌+◌, ◌<◌, drop};
 ghost use Rattle.deck.specs.Coding.{two, pair, list_of};
 ghost use Rattle.deck.specs.Coders.{field, string, flag, kind, line};
-ghost use Rattle.deck_reading.specs.Reading.{two_at, run_at, run_end, run_found, field_at, flag_at, kinds_at, keyword_at, line_at, line_in, reads, field_from, run_from, get_from};
+ghost use Rattle.kinds.specs.Kinds.{does_for};
+ghost use Rattle.deck_reading.specs.Reading.{two_at, run_at, run_end, found, run_found, below_found, field_at, flag_at, kinds_at, keyword_at, line_at, does_found, line_in, reads};
 
-// What reading gives: the place behind what was read, or nothing.
-#[derive(Clone, Copy)]
-pub enum Read {
-    To(usize),
-    Bad,
-}
+use kinds::{Does, Set};
+
+// A lexeme's byte is text below this one, which is an attribute mark's; variable symbols follow.
+pub const MARK: u8 = 127;
+
+// Behind the last byte that a lexeme has in a deck in good form.
+pub const LEXEMES: u8 = 227;
+
+// Behind the last byte that a kind of SET symbols has.
+const KINDS: u8 = 3;
 
 // What a line does, and where what it has stands: the place behind its first byte, and its three fields.
 #[derive(Clone, Copy)]
 pub struct Fields {
-    pub does: u8,
+    pub does: Does,
     pub first: usize,
     pub name: usize,
     pub operation: usize,
     pub operand: usize,
 }
 
-fn wide(b: u8) -> usize
-    ensures { (result ≡ b) × (result < 256) }
-{
-    b as usize
-}
-
 // Two bytes as a number, the greater first.
 pub fn two_at(s: &[u8], at: usize) -> usize
     ensures { (result ≡ two_at s.now at) × (result < 65536) }
 {
-    if s.len() <= at {
-        return 0;
-    }
-    wide(s[at]) * 256 + wide(lent::byte(s, at + 1))
+    let rest = lent::behind(s, at);
+    usize::from(lent::byte(rest, 0)) * 256 + usize::from(lent::byte(rest, 1))
+}
+
+// The place `count` bytes on, if they are all there.
+fn reach(s: &[u8], at: usize, count: usize) -> Option<usize>
+    ensures { result ≡ found s.now (at + count) }
+{
+    let end = at.checked_add(count)?;
+    (end <= s.len()).then_some(end)
 }
 
 // Where the counted run of bytes at a place ends, if it is all there.
-pub fn run_end(s: &[u8], at: usize) -> Read
+pub fn run_end(s: &[u8], at: usize) -> Option<usize>
     ensures { result ≡ run_found s.now at }
 {
-    let size = s.len();
-    if size <= at {
-        return Read::Bad;
-    }
-    if size - at < 2 {
-        return Read::Bad;
-    }
-    let n = two_at(s, at);
-    let from = at + 2;
-    if size - from < n {
-        return Read::Bad;
-    }
-    Read::To(from + n)
-}
-
-// Whether each byte is below a limit.
-fn are_below(s: &[u8], limit: u8) -> bool
-    ensures { result ≡ every (λ b. ltb b limit) s.now }
-{
-    let mut i = 0;
-    while i < s.len() {
-        if limit <= s[i] {
-            return false;
-        }
-        i += 1;
-    }
-    true
-}
-
-// The string at a place.
-pub fn read_string(s: &[u8], at: usize) -> Read
-    ensures { reads (run_at s.now at) s.now result ≡ string.get (drop at s.now) }
-{
-    run_end(s, at)
-}
-
-// The field at a place.
-pub fn read_field(s: &[u8], at: usize) -> Read
-    ensures { reads (field_at s.now at) s.now result ≡ field.get (drop at s.now) }
-{
-    let Read::To(end) = run_end(s, at) else {
-        return Read::Bad;
-    };
-    let from = at + 2;
-    if are_below(&s[from..end], 227) {
-        return Read::To(end);
-    }
-    Read::Bad
-}
-
-// The kinds of SET symbols at a place.
-pub fn read_kinds(s: &[u8], at: usize) -> Read
-    ensures { reads (kinds_at s.now at) s.now result ≡ (list_of kind).get (drop at s.now) }
-{
-    let Read::To(end) = run_end(s, at) else {
-        return Read::Bad;
-    };
-    let from = at + 2;
-    if are_below(&s[from..end], 3) {
-        return Read::To(end);
-    }
-    Read::Bad
-}
-
-// The number at a place.
-pub fn read_two(s: &[u8], at: usize) -> Read
-    ensures { reads (two_at s.now at) s.now result ≡ two.get (drop at s.now) }
-{
-    let size = s.len();
-    if size <= at {
-        return Read::Bad;
-    }
-    if size - at < 2 {
-        return Read::Bad;
-    }
-    Read::To(at + 2)
-}
-
-// The yes or no at a place.
-pub fn read_flag(s: &[u8], at: usize) -> Read
-    ensures { reads (flag_at s.now at) s.now result ≡ flag.get (drop at s.now) }
-{
-    if s.len() <= at {
-        return Read::Bad;
-    }
-    if 1 < s[at] {
-        return Read::Bad;
-    }
-    Read::To(at + 1)
-}
-
-// A further field behind what was read.
-fn then_field(s: &[u8], so_far: Read) -> Read
-    ensures { reads (field_from s.now so_far) s.now result ≡ get_from field s.now so_far }
-{
-    match so_far {
-        Read::To(at) => read_field(s, at),
-        Read::Bad => Read::Bad,
-    }
-}
-
-// A further string behind what was read.
-fn then_string(s: &[u8], so_far: Read) -> Read
-    ensures { reads (run_from s.now so_far) s.now result ≡ get_from string s.now so_far }
-{
-    match so_far {
-        Read::To(at) => read_string(s, at),
-        Read::Bad => Read::Bad,
-    }
-}
-
-// The keyword at a place: its name and its default.
-pub fn read_keyword(s: &[u8], at: usize) -> Read
-    ensures { reads (keyword_at s.now at) s.now result ≡ (pair string string).get (drop at s.now) }
-{
-    then_string(s, read_string(s, at))
-}
-
-// The line at a place.
-pub fn read_line(s: &[u8], at: usize) -> Read
-    ensures { reads (line_at s.now at) s.now result ≡ line.get (drop at s.now) }
-{
-    if s.len() <= at {
-        return Read::Bad;
-    }
-    let does = s[at];
-    let from = at + 1;
-    if does < 3 {
-        return Read::To(from);
-    }
-    if does == 3 {
-        return read_string(s, from);
-    }
-    if does == 4 {
-        return then_field(s, then_field(s, read_field(s, from)));
-    }
-    if does == 5 {
-        return then_field(s, read_two(s, from));
-    }
-    if does == 6 {
-        return read_two(s, from);
-    }
-    if does == 7 {
-        return read_field(s, from);
-    }
-    if does < 11 {
-        return then_field(s, read_field(s, from));
-    }
-    Read::Bad
+    let from = reach(s, at, 2)?;
+    reach(s, from, two_at(s, at))
 }
 
 // The counted run of bytes at a place.
 pub fn run_at(s: &[u8], at: usize) -> &[u8]
     ensures { result.now ≡ run_at s.now at }
 {
-    let size = s.len();
-    if size <= at {
-        return spans::part(s, size, 0);
+    spans::part(s, behind_two(s, at), two_at(s, at))
+}
+
+// Where the run at a place ends, if it is all there and each of its bytes is below a limit.
+fn run_below(s: &[u8], at: usize, limit: u8) -> Option<usize>
+    ensures { result ≡ below_found limit s.now at }
+{
+    let below = run_at(s, at).iter().all(|&b| b < limit);
+    if below { run_end(s, at) } else { None }
+}
+
+// The string at a place.
+pub fn read_string(s: &[u8], at: usize) -> Option<usize>
+    ensures { reads (run_at s.now at) s.now result ≡ string.get (drop at s.now) }
+{
+    run_end(s, at)
+}
+
+// The field at a place.
+pub fn read_field(s: &[u8], at: usize) -> Option<usize>
+    ensures { reads (field_at s.now at) s.now result ≡ field.get (drop at s.now) }
+{
+    run_below(s, at, LEXEMES)
+}
+
+// The kinds of SET symbols at a place.
+pub fn read_kinds(s: &[u8], at: usize) -> Option<usize>
+    ensures { reads (kinds_at s.now at) s.now result ≡ (list_of kind).get (drop at s.now) }
+{
+    run_below(s, at, KINDS)
+}
+
+// The number at a place.
+pub fn read_two(s: &[u8], at: usize) -> Option<usize>
+    ensures { reads (two_at s.now at) s.now result ≡ two.get (drop at s.now) }
+{
+    reach(s, at, 2)
+}
+
+// The yes or no at a place.
+pub fn read_flag(s: &[u8], at: usize) -> Option<usize>
+    ensures { reads (flag_at s.now at) s.now result ≡ flag.get (drop at s.now) }
+{
+    if 1 < lent::byte(s, at) {
+        return None;
     }
-    if size - at < 2 {
-        return spans::part(s, size, 0);
+    reach(s, at, 1)
+}
+
+// The keyword at a place: its name and its default.
+pub fn read_keyword(s: &[u8], at: usize) -> Option<usize>
+    ensures { reads (keyword_at s.now at) s.now result ≡ (pair string string).get (drop at s.now) }
+{
+    let default = read_string(s, at)?;
+    read_string(s, default)
+}
+
+// What a line with this first byte does.
+pub fn does_of(code: u8) -> Option<Does>
+    ensures { result ≡ does_found code }
+{
+    match code {
+        0 => Some(Does::Passes),
+        1 => Some(Does::Ends),
+        2 => Some(Does::Exits),
+        3 => Some(Does::Text),
+        4 => Some(Does::Models),
+        5 => Some(Does::BranchesIf),
+        6 => Some(Does::Branches),
+        7 => Some(Does::Counts),
+        8 => Some(Does::Sets(Set::A)),
+        9 => Some(Does::Sets(Set::B)),
+        10 => Some(Does::Sets(Set::C)),
+        _ => None,
     }
-    spans::part(s, at + 2, two_at(s, at))
+}
+
+// The line at a place.
+pub fn read_line(s: &[u8], at: usize) -> Option<usize>
+    ensures { reads (line_at s.now at) s.now result ≡ line.get (drop at s.now) }
+{
+    let from = reach(s, at, 1)?;
+    match does_of(lent::byte(s, at))? {
+        Does::Passes | Does::Ends | Does::Exits => Some(from),
+        Does::Text => read_string(s, from),
+        Does::Models => {
+            let operation = read_field(s, from)?;
+            let operand = read_field(s, operation)?;
+            read_field(s, operand)
+        }
+        Does::BranchesIf => {
+            let operand = read_two(s, from)?;
+            read_field(s, operand)
+        }
+        Does::Branches => read_two(s, from),
+        Does::Counts => read_field(s, from),
+        Does::Sets(_) => {
+            let operand = read_field(s, from)?;
+            read_field(s, operand)
+        }
+    }
 }
 
 // The place behind the run at a place; the end, where the run is not all there.
 pub fn behind_run(s: &[u8], at: usize) -> usize
     ensures { drop result s.now ≡ drop (run_end s.now at) s.now }
 {
-    match run_end(s, at) {
-        Read::To(end) => end,
-        Read::Bad => s.len(),
-    }
+    run_end(s, at).unwrap_or(s.len())
 }
 
 // The place behind the number at a place; the end, where it is not all there.
 pub fn behind_two(s: &[u8], at: usize) -> usize
     ensures { drop result s.now ≡ drop (at + 2) s.now }
 {
-    let size = s.len();
-    if size <= at {
-        return size;
-    }
-    if size - at < 2 {
-        return size;
-    }
-    at + 2
+    reach(s, at, 2).unwrap_or(s.len())
+}
+
+// What the line at a place does; a first byte that no line has is taken as SETA's.
+pub fn does_at(s: &[u8], at: usize) -> Does
+    ensures { result ≡ does_for (line_at s.now at).does }
+{
+    does_of(lent::byte(s, at)).unwrap_or(Does::Sets(Set::A))
 }
 
 // What the line at a place does, and where its fields stand.
@@ -238,62 +185,39 @@ pub fn line_fields(s: &[u8], at: usize) -> Fields
     ensures { line_in s.now result ≡ line_at s.now at }
 {
     let end = s.len();
-    if end <= at {
-        return Fields {
-            does: 0,
-            first: end,
-            name: end,
-            operation: end,
-            operand: end,
-        };
-    }
-    let does = s[at];
-    let first = at + 1;
-    if does == 4 {
-        let operation = behind_run(s, first);
-        let operand = behind_run(s, operation);
-        return Fields {
-            does: 4,
-            first: first,
-            name: first,
-            operation: operation,
-            operand: operand,
-        };
-    }
-    if does == 5 {
-        let operand = behind_two(s, first);
-        return Fields {
-            does: 5,
-            first: first,
-            name: end,
-            operation: end,
-            operand: operand,
-        };
-    }
-    if does == 7 {
-        return Fields {
-            does: 7,
-            first: first,
-            name: end,
-            operation: end,
-            operand: first,
-        };
-    }
-    if does < 8 {
-        return Fields {
-            does: does,
-            first: first,
-            name: end,
-            operation: end,
-            operand: end,
-        };
-    }
-    let operand = behind_run(s, first);
-    Fields {
-        does: does,
-        first: first,
-        name: first,
+    let first = reach(s, at, 1).unwrap_or(end);
+    let does = does_at(s, at);
+    let bare = Fields {
+        does,
+        first,
+        name: end,
         operation: end,
-        operand: operand,
+        operand: end,
+    };
+    match does {
+        Does::Passes | Does::Ends | Does::Exits | Does::Text | Does::Branches => bare,
+        Does::Models => {
+            let operation = behind_run(s, first);
+            let operand = behind_run(s, operation);
+            Fields {
+                name: first,
+                operation,
+                operand,
+                ..bare
+            }
+        }
+        Does::BranchesIf => Fields {
+            operand: behind_two(s, first),
+            ..bare
+        },
+        Does::Counts => Fields {
+            operand: first,
+            ..bare
+        },
+        Does::Sets(_) => Fields {
+            name: first,
+            operand: behind_run(s, first),
+            ..bare
+        },
     }
 }

@@ -2,25 +2,17 @@
 use Prim.Native.Nat.{ℕ, suc, ◌-◌, ◌≤◌, ◌<◌}
 use native.Mathlib.Omega.{arith}
 use mathlib.Core.Path.{◌≡◌, ap, sym, ◌∙◌, subst}
-use mathlib.Core.List.{List, []}
+use mathlib.Core.List.{[]}
 use lib.ListN.{length, take, drop}
 use Rattle.text.specs.Bytes.{Bytes}
 use Rattle.rules.specs.Fields.{lines_of}
-use Rattle.rules.specs.Library.{outer, macros_from}
 use Rattle.lines.specs.Ends.{line_end}
-use Rattle.lines.proofs.Found.{no-line}
-use Rattle.labels.specs.Searches.{past_newline, body_end, prototype_start}
+use Rattle.labels.specs.Searches.{past_newline, behind, body_end, prototype_start}
 use Rattle.labels.proofs.Turns.{past-within}
-use Rattle.decks.specs.Decks.{body_from, macro_end, macro_at, macros_at}
+use Rattle.decks.specs.declared.Macro.{Macro as Piece}
+use Rattle.decks.specs.Decks.{Found, Stands, body_from, macro_end, macro_at, macros_at}
 use Rattle.decks.proofs.Outside.{Outside, outside-next}
 use Rattle.decks.proofs.Puts.{none_left, next-count}
-
--- the next macro's prototype is from `start` to `end`, its body from `body` to `next`
-pub record Found (library : Bytes) (at start end body next : ℕ) : Type 0 where
-  pub start_is : start ≡ prototype_start library at
-  pub end_is : end ≡ line_end library start
-  pub body_is : body ≡ past_newline library end
-  pub next-is : next ≡ body_end library body
 
 module _ {library : Bytes} {at start end body next : ℕ} (f : Found library at start end body next) where
   body_at : body ≡ body_from library at
@@ -48,6 +40,9 @@ module _ {library : Bytes} {at start end body next : ℕ} (f : Found library at 
     pub body-behind : start < body
     body-behind = let w = past-within library start end h f.end_is in omega (arith, w.0, f.body_is)
 
+    pub body-within : body ≤ length library
+    body-within = omega (arith, f.body_is, (past-within library start end h f.end_is).1)
+
     pub outside-on : Outside library at → Outside library next
     outside-on g = subst (Outside library) (sym next-at) (outside-next library at g there)
 
@@ -57,7 +52,7 @@ module _ {library : Bytes} {at start end body next : ℕ} (f : Found library at 
 pub count_none : (library : Bytes) (at start : ℕ) → start ≡ prototype_start library at → length library ≤ start → length (macros_at library at) ≡ 0
 count_none library at start e h = ap length (none_left [] library at (omega (arith, e, h)))
 
--- at the library's end
-pub count-end : (library : Bytes) (at : ℕ) → length library ≤ at → length (macros_at library at) ≡ 0
-unfolding macros_at macros_from
-count-end library at h = ap (λ (ls : List Bytes). length (macros_from outer ls)) (no-line library at h)
+-- a macro that stands from `at` on ends behind that place
+pub stands-on : {library : Bytes} {at : ℕ} {m : Piece} → Stands library at m → (at < m.next) × (at < length library)
+unfolding prototype_start body_end behind
+stands-on h = let b = body-behind h.found h.inside in (omega (arith, h.found.start_is, h.found.next-is, b), omega (arith, h.found.start_is, h.inside))

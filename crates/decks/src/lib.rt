@@ -1,9 +1,36 @@
-// The deck of a library: how many macros it has.
+// The macros of a library, one after another, and how many there are.
 #![tactic(auto)]
 
-ghost use Rattle.std.specs.Prelude.{◌≡◌, length};
+ghost use Rattle.std.specs.Prelude.{◌≡◌, ◌≤◌, length, MatchOption};
 ghost use Rattle.rules.specs.Faults.{accepted, verdict};
-ghost use Rattle.decks.specs.Decks.{macros_at};
+ghost use Rattle.labels.specs.Searches.{prototype_start};
+ghost use Rattle.decks.specs.Decks.{macros_at, Stands};
+
+// A macro where it stands in a library: its prototype, its body, and the place behind it.
+#[derive(Clone, Copy)]
+pub struct Macro<'a> {
+    pub prototype: &'a [u8],
+    pub body: &'a [u8],
+    pub next: usize,
+}
+
+// The next macro from `at` on, if there is one.
+pub fn next_macro(library: &[u8], at: usize) -> Option<Macro<'_>>
+    ensures { MatchOption result (length library.now ≤ prototype_start library.now at) (Stands library.now at) }
+{
+    let start = labels::prototype_start(library, at);
+    if library.len() <= start {
+        return None;
+    }
+    let end = lines::line_end(library, start);
+    let body = lines::past_newline(library, end);
+    let next = labels::body_end(library, body);
+    Some(Macro {
+        prototype: &library[start..end],
+        body: &library[body..next],
+        next,
+    })
+}
 
 // How many macros an accepted library has.
 pub fn macro_count(library: &[u8]) -> usize
@@ -12,14 +39,8 @@ pub fn macro_count(library: &[u8]) -> usize
 {
     let mut at = 0;
     let mut count = 0;
-    while at < library.len() {
-        let start = labels::prototype_start(library, at);
-        if library.len() <= start {
-            return count;
-        }
-        let end = lines::line_end(library, start);
-        let body = labels::past_newline(library, end);
-        at = labels::body_end(library, body);
+    while let Some(found) = next_macro(library, at) {
+        at = found.next;
         count += 1;
     }
     count

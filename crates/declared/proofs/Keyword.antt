@@ -1,6 +1,5 @@
 -- What the first bare `=` of a part says of it: whether the part may stand in a prototype, and whether a text may stand as a default. Assumes nothing.
-use Prim.Native.Nat.{ℕ, suc, ◌+◌, ◌-◌, ◌≤◌, ◌<◌}
-use native.Mathlib.Nat.{sub-zero}
+use Prim.Native.Nat.{ℕ, suc, ◌+◌, ◌≤◌, ◌<◌}
 use native.Mathlib.Omega.{arith}
 use mathlib.Core.Path.{◌≡◌, refl, ap, sym, ◌∙◌}
 use mathlib.Core.Bool.{Bool, true, false, ◌&&◌, ◌||◌, not}
@@ -53,13 +52,10 @@ module _ (s : Bytes) (end : ℕ) (e : end ≡ 0 + bare_at equals s) where
       nested true b c = refl
       nested false b c = refl
 
-  module _ {one : Bool} (o : one ≡ is_one_symbol (lexed true (take (end - 0) s))) where
-    one_told : one ≡ is_one_symbol (lexed true (take end s))
-    one_told = o ∙ ap (λ (n : ℕ). is_one_symbol (lexed true (take n s))) (sub-zero end)
-
+  module _ {one : Bool} (o : one ≡ is_one_symbol (lexed true (take end s))) where
     good-is : is_good_part x ≡ (one && (not (ltb end (length s)) || is_default (drop (suc (equals_at x)) x)))
     unfolding is_good_part
-    good-is = λ i. (ap is_one_symbol before-told ∙ sym one_told) i && (not (has-told i) || is_default (drop (suc (equals_at x)) x))
+    good-is = λ i. (ap is_one_symbol before-told ∙ sym o) i && (not (has-told i) || is_default (drop (suc (equals_at x)) x))
 
     pub no_symbol : one ≡ false → is_good_part x ≡ false
     no_symbol f = good-is ∙ ap (λ (b : Bool). b && (not (ltb end (length s)) || is_default (drop (suc (equals_at x)) x))) f

@@ -1,13 +1,14 @@
 -- What the piece that stands first in a text says of the text's symbols: the first of them, one that is too long, and whether there is any. Assumes nothing.
 use Prim.Native.Nat.{ℕ, suc, ◌+◌, ◌-◌, ◌≤◌, ◌<◌}
-use native.Mathlib.Nat.{not-suc-le-zero, add-zero}
+use native.Mathlib.Nat.{not-suc-le-zero}
 use native.Mathlib.Omega.{arith}
 use mathlib.Core.Path.{◌≡◌, refl, ap, sym, ◌∙◌}
 use mathlib.Core.Bool.{Bool, true, false, ◌&&◌, ◌||◌, not}
-use mathlib.Core.List.{[], ◌∷◌}
+use mathlib.Core.List.{List, [], ◌∷◌}
+use Rattle.std.proofs.lemmas.List.{nil_from_length}
 use lib.Dec.{eqb, ltb}
-use lib.ListN.{length, get_or, take, drop, length-take, length-drop, drop_of_length-le}
-use lib.Seq.{take_all, drop-drop, get_or-drop}
+use lib.ListN.{length, get_or, take, drop, length-take, length-drop}
+use lib.Seq.{take_all}
 use borrow.Author.Tests.{eqb-true, eqb-false, eq-eqb, ne_eqb, lt-ltb, le-ltb}
 use Rattle.text.specs.Bytes.{Bytes}
 use Rattle.text.specs.Characters.{letter, letter_or_digit}
@@ -16,7 +17,7 @@ use Rattle.rules.specs.Lexemes.{ampersand, Lex, byte, ref, lone, symbols, lexed,
 use Rattle.rules.specs.Library.{start_symbol, is_one_symbol}
 use Rattle.rules.specs.Faults.{has_long_symbol}
 use Rattle.rules.proofs.Choices.{by, either, chosen, passed_over}
-use Rattle.coding.specs.Coded.{symbol_end}
+use Rattle.chars.specs.Ends.{symbol_end}
 use Rattle.declared.specs.Declared.{start_length, start_name, piece_length, starts_plain}
 use Rattle.declared.proofs.Unmarked.{Lexes, text_lexed, start-by-text, one-by-text}
 use Rattle.declared.proofs.Pieces.{letter-other, text-byte, text-pair, text-lone, text-symbol, by-piece}
@@ -132,8 +133,8 @@ same_test : (a b c d : ℕ) → (a ≡ b → c ≡ d) → (c ≡ d → a ≡ b) 
 same_test a b c d f g =
     by (eqb a b) (λ e. e ∙ sym (eq-eqb c d (f (eqb-true a b e)))) (λ e. e ∙ sym (ne_eqb c d (λ q. eqb-false a b e (g q))))
 
-one_none : (s : Bytes) → start_length s ≡ 0 → (not (eqb (start_length s) 0) && eqb (start_length s + 1) (length s)) ≡ false
-one_none s e = ap (λ (n : ℕ). not (eqb n 0) && eqb (start_length s + 1) (length s)) e
+one_unnamed : (s : Bytes) → start_length s ≡ 0 → (not (eqb (start_length s) 0) && eqb (start_length s + 1) (length s)) ≡ false
+one_unnamed s e = ap (λ (n : ℕ). not (eqb n 0) && eqb (start_length s + 1) (length s)) e
 
 one-some : (s : Bytes) (n : ℕ) → start_length s ≡ suc n → (not (eqb (start_length s) 0) && eqb (start_length s + 1) (length s)) ≡ eqb (suc n + 1) (length s)
 one-some s n e = ap (λ (n : ℕ). not (eqb n 0) && eqb (n + 1) (length s)) e ∙ ap (λ (b : Bool). not b && eqb (suc n + 1) (length s)) (some-length n)
@@ -143,8 +144,8 @@ unfolding is_one_symbol text_lexed symbols start_length choose letter
 one-text [] = refl
 one-text (c ∷ s) =
     by-piece (λ t. is_one_symbol (text_lexed t) ≡ (not (eqb (start_length t) 0) && eqb (start_length t + 1) (length t)))
-    (λ c s e. ap is_one_symbol (text-byte c s e) ∙ sym (one_none (c ∷ s) (start-other c s e)))
-    (λ s. ap is_one_symbol (text-pair s) ∙ sym (one_none (ampersand ∷ (ampersand ∷ s)) (start-pair s)))
+    (λ c s e. ap is_one_symbol (text-byte c s e) ∙ sym (one_unnamed (c ∷ s) (start-other c s e)))
+    (λ s. ap is_one_symbol (text-pair s) ∙ sym (one_unnamed (ampersand ∷ (ampersand ∷ s)) (start-pair s)))
     (λ c s e.
     let r = run letter_or_digit s in
     let l = length-drop r s in
@@ -153,7 +154,7 @@ one-text (c ∷ s) =
     ∙ (one-ref (c ∷ take r s) (drop r s)
     ∙ (same_test (length (drop r s)) 0 (suc r + 1) (length (ampersand ∷ (c ∷ s))) (λ q. omega (arith, q, l, k)) (λ q. omega (arith, q, l, k))
     ∙ sym (one-some (ampersand ∷ (c ∷ s)) r (start-symbol c s e)))))
-    (λ s e f. ap is_one_symbol (text-lone s e f) ∙ sym (one_none (ampersand ∷ s) (start_left s f)))
+    (λ s e f. ap is_one_symbol (text-lone s e f) ∙ sym (one_unnamed (ampersand ∷ s) (start_left s f)))
     c s
 
 pub one-is : (quotes : Bool) (s : Bytes) → is_one_symbol (lexed quotes s) ≡ (not (eqb (start_length s) 0) && eqb (start_length s + 1) (length s))
@@ -202,101 +203,117 @@ plain-text =
     (λ c s e. ap (every is_plain) (text-symbol c s e) ∙ sym (plain-no (ampersand ∷ (c ∷ s)) (ap (λ (b : Bool). not (not b)) (letter-other c e))))
     (λ s e f. ap (every is_plain) (text-lone s e f) ∙ sym (plain-no (ampersand ∷ s) (ap (λ (b : Bool). not (not b)) e)))
 
--- ---- by place
+-- ---- what code finds
 
--- the text from a place on, cut out
-pub part-all : (s : Bytes) (at : ℕ) → take (length s - at) (drop at s) ≡ drop at s
-part-all s at = take_all (length s - at) (drop at s) (omega (arith, length-drop at s))
+-- the name that was found, or none
+module _ (s : Bytes) where
+  abbrev first_of : List Bytes → Bytes
+  first_of [] = []
+  first_of (n ∷ ns) = n
+
+  pub size_none : [] ≡ start_name s → start_length s ≡ 0
+  unfolding start_name
+  size_none e =
+      by (eqb (start_length s) 0) (λ t. eqb-true (start_length s) 0 t)
+      (λ t. let n = ap length (e ∙ passed_over _ _ t) in omega (arith, n))
+
+  pub size-some : (n : Bytes) → n ∷ [] ≡ start_name s → length n ≡ start_length s
+  unfolding start_name
+  size-some n e =
+      by (eqb (start_length s) 0) (λ t. let n = ap length (e ∙ chosen _ _ t) in omega (arith, n))
+      (λ t.
+      let l = length-take (start_length s) (drop 1 s) in
+      ap length (ap first_of (e ∙ passed_over _ _ t)) ∙ (l ∙ omega (arith, length-drop 1 s, start-inside s)))
+
+  pub one_none : (quotes : Bool) → [] ≡ start_name s → false ≡ is_one_symbol (lexed quotes s)
+  one_none quotes e = sym (one-is quotes s ∙ ap (λ (k : ℕ). not (eqb k 0) && eqb (start_length s + 1) (length s)) (size_none e))
+
+  pub one-found : (quotes : Bool) (n : Bytes) → n ∷ [] ≡ start_name s → eqb (length n + 1) (length s) ≡ is_one_symbol (lexed quotes s)
+  unfolding start_name
+  one-found quotes n e =
+      by (eqb (start_length s) 0) (λ t. let n = ap length (e ∙ chosen _ _ t) in absurd (omega (arith, n)))
+      (λ t. ap (λ (k : ℕ). eqb (k + 1) (length s)) (size-some n e) ∙ sym (one-is quotes s ∙ ap (λ (b : Bool). not b && eqb (start_length s + 1) (length s)) t))
+
+module _ (s : Bytes) {first second : ℕ} (f : first ≡ get_or s 0 0) (g : second ≡ get_or s 1 0) where
+  module _ {named : Bool} (l : named ≡ letter second) where
+    start-tested : (eqb first ampersand && named) ≡ (eqb (get_or s 0 0) ampersand && letter (get_or s 1 0))
+    start-tested = λ i. eqb (f i) ampersand && (l ∙ ap letter g) i
+
+    module _ (t : (eqb first ampersand && named) ≡ true) (end : ℕ) (e : end ≡ symbol_end s 2) where
+      length_found : start_length s ≡ suc (run letter_or_digit (drop 2 s))
+      unfolding start_length
+      length_found = chosen _ _ (sym start-tested ∙ t)
+
+      end-found : end ≡ 2 + run letter_or_digit (drop 2 s)
+      unfolding symbol_end
+      end-found = e
+
+      pub end-inside : (1 ≤ end) × (end ≤ length s)
+      end-inside = (omega (arith, end-found), omega (arith, end-found, length_found, start-inside s))
+
+      pub named-found : (quotes : Bool) → take (end - 1) (drop 1 s) ∷ [] ≡ start_symbol (lexed quotes s)
+      named-found quotes =
+          let n : suc (run letter_or_digit (drop 2 s)) ≡ end - 1 = omega (arith, end-found) in
+          sym (start_is quotes s ∙ (name-some s (run letter_or_digit (drop 2 s)) length_found ∙ ap (λ (k : ℕ). take k (drop 1 s) ∷ []) n))
+
+    pub none-found : (eqb first ampersand && named) ≡ false → (quotes : Bool) → [] ≡ start_symbol (lexed quotes s)
+    unfolding start_length
+    none-found t quotes = sym (start_is quotes s ∙ name-none s (passed_over _ _ (sym start-tested ∙ t)))
+
+-- ---- pieces
+
+module _ (t : Bytes) {second : ℕ} (g : second ≡ get_or t 1 0) where
+  pair-tested : (eqb (get_or t 0 0) ampersand && eqb second ampersand) ≡ (eqb (get_or t 0 0) ampersand && eqb (get_or t 1 0) ampersand)
+  pair-tested = λ i. eqb (get_or t 0 0) ampersand && eqb (g i) ampersand
+
+  pub pair-length : (eqb (get_or t 0 0) ampersand && eqb second ampersand) ≡ true → 2 ≡ piece_length t
+  unfolding piece_length
+  pair-length e = sym (chosen _ _ (sym pair-tested ∙ e))
+
+  pub other_length : (eqb (get_or t 0 0) ampersand && eqb second ampersand) ≡ false → (n : ℕ) → n ≡ start_length t → n + 1 ≡ piece_length t
+  unfolding piece_length
+  other_length e n q = let k : n + 1 ≡ suc (start_length t) = omega (arith, q) in k ∙ sym (passed_over _ _ (sym pair-tested ∙ e))
+
+  pub plain-told : {b : Bool} → (eqb (get_or t 0 0) ampersand && not (eqb second ampersand)) ≡ b → starts_plain t ≡ not b
+  unfolding starts_plain
+  plain-told e = ap not (sym (λ i. eqb (get_or t 0 0) ampersand && not (eqb (g i) ampersand)) ∙ e)
 
 -- what holds of texts that are not empty
 some-text : (P : Bytes → Type 0) → ((c : ℕ) (s : Bytes) → P (c ∷ s)) → (t : Bytes) → 0 < length t → P t
 some-text P p [] h = absurd (not-suc-le-zero h)
 some-text P p (c ∷ s) h = p c s
 
-module _ (s : Bytes) (at : ℕ) (h : at < length s) where
-  abbrev t : Bytes
-  t = drop at s
+module _ (t : Bytes) (h : 0 < length t) where
+  pub piece-within : (0 < piece_length t) × (piece_length t ≤ length t)
+  piece-within = some-text (λ t. (0 < piece_length t) × (piece_length t ≤ length t)) piece_inside t h
 
-  abbrev next : ℕ
-  next = at + piece_length t
+  long-on : long_from t ≡ (ltb 7 (start_length t) || long_from (drop (piece_length t) t))
+  long-on = some-text (λ t. long_from t ≡ (ltb 7 (start_length t) || long_from (drop (piece_length t) t))) long-text t h
 
-  some_left : 0 < length t
-  some_left = omega (arith, length-drop at s)
+  pub long-found : 7 < start_length t → long_from t ≡ true
+  long-found lt = long-on ∙ ap (λ (b : Bool). b || long_from (drop (piece_length t) t)) (lt-ltb 7 (start_length t) lt)
 
-  pub further : (at < next) × (next ≤ length s)
-  further =
-      let p = some-text (λ t. (0 < piece_length t) × (piece_length t ≤ length t)) piece_inside t some_left in
-      let l = length-drop at s in
-      (omega (arith, p.0), omega (arith, p.1, l))
+  pub long-further : start_length t ≤ 7 → long_from t ≡ long_from (drop (piece_length t) t)
+  long-further le = long-on ∙ ap (λ (b : Bool). b || long_from (drop (piece_length t) t)) (le-ltb 7 (start_length t) le)
 
-  long-on : long_from t ≡ (ltb 7 (start_length t) || long_from (drop next s))
-  long-on =
-      some-text (λ t. long_from t ≡ (ltb 7 (start_length t) || long_from (drop (piece_length t) t))) long-text t some_left
-      ∙ ap (λ (v : Bytes). ltb 7 (start_length t) || long_from v) (drop-drop (piece_length t) at s)
-
-  plain-on : plain_from t ≡ (starts_plain t && plain_from (drop next s))
-  plain-on =
-      some-text (λ t. plain_from t ≡ (starts_plain t && plain_from (drop (piece_length t) t))) plain-text t some_left
-      ∙ ap (λ (v : Bytes). starts_plain t && plain_from v) (drop-drop (piece_length t) at s)
-
-  -- the name that stands first is too long, or none is
-  module _ (n : ℕ) (e : n ≡ start_length (take (length s - at) t)) where
-    name-is : n ≡ start_length t
-    name-is = e ∙ ap start_length (part-all s at)
-
-    pub long-found : 7 < n → long_from t ≡ true
-    long-found lt = long-on ∙ ap (λ (b : Bool). b || long_from (drop next s)) (lt-ltb 7 (start_length t) (omega (arith, lt, name-is)))
-
-    pub long-further : (m : ℕ) → n ≤ 7 → m ≡ piece_length t → long_from t ≡ long_from (drop (at + m) s)
-    long-further m le p =
-        long-on
-        ∙ (ap (λ (b : Bool). b || long_from (drop next s)) (le-ltb 7 (start_length t) (omega (arith, le, name-is))) ∙ ap (λ (k : ℕ). long_from (drop (at + k) s)) (sym p))
+  plain-on : plain_from t ≡ (starts_plain t && plain_from (drop (piece_length t) t))
+  plain-on = some-text (λ t. plain_from t ≡ (starts_plain t && plain_from (drop (piece_length t) t))) plain-text t h
 
   pub plain-stop : starts_plain t ≡ false → plain_from t ≡ false
-  plain-stop e = plain-on ∙ ap (λ (b : Bool). b && plain_from (drop next s)) e
+  plain-stop e = plain-on ∙ ap (λ (b : Bool). b && plain_from (drop (piece_length t) t)) e
 
-  pub plain-further : (m : ℕ) → starts_plain t ≡ true → m ≡ piece_length t → plain_from t ≡ plain_from (drop (at + m) s)
-  plain-further m e p = plain-on ∙ (ap (λ (b : Bool). b && plain_from (drop next s)) e ∙ ap (λ (k : ℕ). plain_from (drop (at + k) s)) (sym p))
+  pub plain-further : starts_plain t ≡ true → plain_from t ≡ plain_from (drop (piece_length t) t)
+  plain-further e = plain-on ∙ ap (λ (b : Bool). b && plain_from (drop (piece_length t) t)) e
 
-module _ (s : Bytes) (at : ℕ) (h : length s ≤ at) where
-  pub long-end : long_from (drop at s) ≡ false
+module _ (t : Bytes) (h : length t ≡ 0) where
+  pub long-end : long_from t ≡ false
   unfolding has_long_symbol refs_in any text_lexed symbols
-  long-end = ap long_from (drop_of_length-le s h)
+  long-end = ap long_from (nil_from_length t h)
 
-  pub plain_end : plain_from (drop at s) ≡ true
+  pub plain_end : plain_from t ≡ true
   unfolding every text_lexed symbols
-  plain_end = ap plain_from (drop_of_length-le s h)
+  plain_end = ap plain_from (nil_from_length t h)
 
--- ---- what code reads
-
-module _ (s : Bytes) {first second : ℕ} (f : first ≡ get_or s 0 0) (g : second ≡ get_or s 1 0) {named : Bool} (l : named ≡ letter second) where
-  start-tested : (eqb first ampersand && named) ≡ (eqb (get_or s 0 0) ampersand && letter (get_or s 1 0))
-  start-tested = λ i. eqb (f i) ampersand && (l ∙ ap letter g) i
-
-  pub start-named : (eqb first ampersand && named) ≡ true → (end : ℕ) → end ≡ symbol_end s 2 → end - 1 ≡ start_length s
-  unfolding start_length symbol_end
-  start-named t end e = let n : end - 1 ≡ suc (run letter_or_digit (drop 2 s)) = omega (arith, e) in n ∙ sym (chosen _ _ (sym start-tested ∙ t))
-
-  pub start-unnamed : (eqb first ampersand && named) ≡ false → 0 ≡ start_length s
-  unfolding start_length
-  start-unnamed t = sym (passed_over _ _ (sym start-tested ∙ t))
-
--- the first two bytes from a place on
-first-at : (s : Bytes) (at : ℕ) → get_or (drop at s) 0 0 ≡ get_or s at 0
-first-at s at = get_or-drop at s 0 0 ∙ ap (λ (k : ℕ). get_or s k 0) (add-zero at)
-
-module _ (s : Bytes) (at : ℕ) {second : ℕ} (g : second ≡ get_or s (at + 1) 0) where
-  pair-tested : (eqb (get_or s at 0) ampersand && eqb second ampersand) ≡ (eqb (get_or (drop at s) 0 0) ampersand && eqb (get_or (drop at s) 1 0) ampersand)
-  pair-tested = λ i. eqb (sym (first-at s at) i) ampersand && eqb ((g ∙ sym (get_or-drop at s 1 0)) i) ampersand
-
-  pub pair-length : (eqb (get_or s at 0) ampersand && eqb second ampersand) ≡ true → 2 ≡ piece_length (drop at s)
-  unfolding piece_length
-  pair-length t = sym (chosen _ _ (sym pair-tested ∙ t))
-
-  pub other_length : (eqb (get_or s at 0) ampersand && eqb second ampersand) ≡ false → (n : ℕ) → n ≡ start_length (drop at s) → n + 1 ≡ piece_length (drop at s)
-  unfolding piece_length
-  other_length t n e = let k : n + 1 ≡ suc (start_length (drop at s)) = omega (arith, e) in k ∙ sym (passed_over _ _ (sym pair-tested ∙ t))
-
-  pub plain-told : {b : Bool} → (eqb (get_or s at 0) ampersand && not (eqb second ampersand)) ≡ b → starts_plain (drop at s) ≡ not b
-  unfolding starts_plain
-  plain-told e = ap not (sym (λ i. eqb (sym (first-at s at) i) ampersand && not (eqb ((g ∙ sym (get_or-drop at s 1 0)) i) ampersand)) ∙ e)
+-- the text from a place on, cut out
+pub part-all : (s : Bytes) (at : ℕ) → take (length s - at) (drop at s) ≡ drop at s
+part-all s at = take_all (length s - at) (drop at s) (omega (arith, length-drop at s))

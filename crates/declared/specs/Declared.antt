@@ -1,5 +1,6 @@
 -- What a text starts with, by bytes: a variable symbol, or another piece. That these are 01's lexemes is proofs/. Assumes nothing.
-use Rattle.std.specs.Prelude.{ℕ, suc, Bool, ◌&&◌, not, List, [], ◌∷◌, eqb, get_or, take, drop}
+use Rattle.std.specs.Prelude.{ℕ, suc, Bool, ◌&&◌, not, List, [], ◌∷◌, Option, Some, None, eqb, get_or, take, drop}
+use Rattle.std.specs.Borrow.{Bor}
 use Rattle.text.specs.Bytes.{Bytes}
 use Rattle.text.specs.Characters.{letter, letter_or_digit}
 use Rattle.rules.specs.Choice.{choose, run}
@@ -12,6 +13,11 @@ start_length s = choose (eqb (get_or s 0 0) ampersand && letter (get_or s 1 0)) 
 -- the symbol that stands first, or none
 unfoldable pub start_name : Bytes → List Bytes
 start_name s = choose (eqb (start_length s) 0) [] (take (start_length s) (drop 1 s) ∷ [])
+
+-- what was found, as 01 tells it: one name or none
+abbrev pub found : Option (Bor Bytes) → List Bytes
+found None = []
+found (Some n) = n.now ∷ []
 
 -- how many bytes stand first that are one piece: a pair of ampersands, a symbol, or a byte
 unfoldable pub piece_length : Bytes → ℕ

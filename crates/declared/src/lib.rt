@@ -1,60 +1,74 @@
 // What one part of an operand is: a variable symbol, a text that may stand as a default, a keyword with its default.
 #![tactic(auto)]
 
-ghost use Rattle.std.specs.Prelude.{◌≡◌, Bool, true, ◌+◌, ◌-◌, ◌<◌, length, drop};
+ghost use Rattle.std.specs.Prelude.{◌≡◌, Bool, true, ◌≤◌, ◌<◌, ltb, length};
 ghost use Rattle.rules.specs.Choice.{every};
 ghost use Rattle.rules.specs.Lexemes.{lexed, is_plain, outside};
 ghost use Rattle.rules.specs.Calls.{pair_up};
-ghost use Rattle.rules.specs.Library.{is_one_symbol};
+ghost use Rattle.rules.specs.Library.{start_symbol, is_one_symbol};
 ghost use Rattle.rules.specs.Faults.{has_long_symbol, is_default, is_good_part};
-ghost use Rattle.declared.specs.Declared.{start_length, piece_length};
+ghost use Rattle.declared.specs.Declared.{start_length, found, piece_length};
 
-// How long the name is of the variable symbol that the text starts with; 0 where it starts with none.
-pub fn start_length(s: &[u8]) -> usize
-    ensures { result ≡ start_length s.now }
+// The name of the variable symbol that the text starts with.
+pub fn start_symbol(s: &[u8]) -> Option<&[u8]>
+    ensures { (q : Bool) → found result ≡ start_symbol (lexed q s.now) }
 {
     let first = lent::byte(s, 0);
     let second = lent::byte(s, 1);
     if (first == b'&') & chars::letter(second) {
-        let end = coding::symbol_end(s, 2);
-        return end - 1;
+        let end = chars::symbol_end(s, 2);
+        return Some(&s[1..end]);
     }
-    0
+    None
 }
 
-// How many bytes the piece at `at` has: a pair of ampersands, a variable symbol, or a byte.
-fn piece_length(s: &[u8], at: usize) -> usize
-    requires { at < length s.now }
-    ensures { result ≡ piece_length (drop at s.now) }
+// How many bytes the piece has that stands first: a pair of ampersands, a variable symbol, or a byte.
+fn piece_length(s: &[u8]) -> usize
+    requires { 0 < length s.now }
+    ensures value { result ≡ piece_length s.now }
+    ensures within { (0 < result) × (result ≤ length s.now) }
 {
-    let first = s[at];
-    let second = lent::byte(s, at + 1);
-    if (first == b'&') & (second == b'&') {
+    let second = lent::byte(s, 1);
+    if (s[0] == b'&') & (second == b'&') {
         return 2;
     }
-    let name = start_length(&s[at..]);
-    name + 1
+    match start_symbol(s) {
+        Some(name) => name.len() + 1,
+        None => 1,
+    }
 }
 
 // Whether the text is one variable symbol.
 pub fn is_one_symbol(s: &[u8]) -> bool
     ensures { (q : Bool) → result ≡ is_one_symbol (lexed q s.now) }
 {
-    let name = start_length(s);
-    (name != 0) & (name + 1 == s.len())
+    match start_symbol(s) {
+        Some(name) => name.len() + 1 == s.len(),
+        None => false,
+    }
+}
+
+// Whether the variable symbol that the text starts with is too long.
+fn starts_long(s: &[u8]) -> bool
+    ensures { result ≡ ltb 7 (start_length s.now) }
+{
+    match start_symbol(s) {
+        Some(name) => name.len() > 7,
+        None => false,
+    }
 }
 
 // Whether a variable symbol of the text is too long.
 pub fn has_long(s: &[u8]) -> bool
     ensures { (q : Bool) → result ≡ has_long_symbol (lexed q s.now) }
 {
-    let mut at = 0;
-    while at < s.len() {
-        let name = start_length(&s[at..]);
-        if 7 < name {
+    // (What a piece is, and its size, is told by all that follows it: an iterator over pieces would give the rests that this goes through.)
+    let mut rest = s;
+    while !rest.is_empty() {
+        if starts_long(rest) {
             return true;
         }
-        at += piece_length(s, at);
+        rest = &rest[piece_length(rest)..];
     }
     false
 }
@@ -63,14 +77,14 @@ pub fn has_long(s: &[u8]) -> bool
 pub fn is_plain(s: &[u8]) -> bool
     ensures { (q : Bool) → result ≡ every is_plain (lexed q s.now) }
 {
-    let mut at = 0;
-    while at < s.len() {
-        let first = s[at];
-        let second = lent::byte(s, at + 1);
-        if (first == b'&') & (second != b'&') {
+    // (As in `has_long`: each test looks behind the piece.)
+    let mut rest = s;
+    while !rest.is_empty() {
+        let second = lent::byte(rest, 1);
+        if (rest[0] == b'&') & (second != b'&') {
             return false;
         }
-        at += piece_length(s, at);
+        rest = &rest[piece_length(rest)..];
     }
     true
 }
@@ -79,20 +93,12 @@ pub fn is_plain(s: &[u8]) -> bool
 pub fn pairs_up(s: &[u8]) -> bool
     ensures { result ≡ pair_up outside (lexed true s.now) }
 {
-    let mut i = 0;
-    let mut seen = fields::Seen {
-        second: b' ',
-        first: b' ',
-        quoted: false,
-        depth: 0,
-    };
-    while i < s.len() {
-        let d = s[i];
+    let mut seen = fields::Seen::START;
+    for (i, &d) in s.iter().enumerate() {
         let next = lent::byte(s, i + 1);
         if parts::is_bare(seen, d, next, b')') {
             return false;
         }
-        i += 1;
         seen = fields::seen_after(seen, d, next);
     }
     let quoted = seen.quoted;
@@ -113,7 +119,7 @@ pub fn is_good_part(s: &[u8]) -> bool
     ensures { result ≡ is_good_part (lexed true s.now) }
 {
     let end = parts::bare_at(s, 0, b'=');
-    if !is_one_symbol(&s[0..end]) {
+    if !is_one_symbol(&s[..end]) {
         return false;
     }
     if end == s.len() {

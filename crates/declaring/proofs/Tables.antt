@@ -4,25 +4,27 @@ use native.Mathlib.Omega.{arith}
 use native.Mathlib.Numerals.{add-one}
 use mathlib.Core.Path.{◌≡◌, refl, ap, sym, ◌∙◌}
 use mathlib.Core.Bool.{Bool, true, false, ◌&&◌, ◌||◌, not}
-use mathlib.Core.List.{List, [], ◌∷◌}
+use mathlib.Core.List.{List, [], ◌∷◌, ◌++◌}
 use lib.Dec.{eqb, ltb}
-use lib.ListN.{length, take, drop, get_or, drop_of_length-le, length-take}
+use lib.ListN.{length, drop, get_or, drop_of_length-le}
 use lib.Seq.{drop-cons, get_or-drop}
 use borrow.Author.Tests.{eq-eqb, ne_eqb, lt-ltb, le-ltb}
-use Rattle.text.specs.Bytes.{Bytes, bytes, same}
+use Rattle.text.specs.Bytes.{Bytes, same}
 use Rattle.text.specs.Words.{place_among}
-use Rattle.text.proofs.Same.{other_length}
+use Rattle.std.specs.Cmp.Lexicographic.{pointwise}
 use Rattle.rules.specs.Choice.{any}
-use Rattle.rules.specs.Fields.{starts_with}
 use Rattle.rules.specs.Statement.{Set, set_a, set_b, set_c}
 use Rattle.rules.specs.Form.{same_set}
 use Rattle.rules.specs.Faults.{has_other_kind}
 use Rattle.rules.proofs.Choices.{chosen, passed_over, by}
 use Rattle.rules.proofs.Symbols.{known-place, unknown-place}
-use Rattle.deck.specs.Coders.{set_code}
+use denote.Enum.Bare.{sameb}
+use Rattle.kinds.specs.contracts.Set.{the_type}
+use Rattle.kinds.specs.declared.Set.{Set as Kept}
+use Rattle.kinds.specs.declared.Set.TheVariants.{A, B, C}
+use Rattle.kinds.specs.Kinds.{set_of}
 use Rattle.names.specs.Names.{name_in, names_in}
 use Rattle.names.proofs.Rows.{row_at, names-length}
-use Rattle.operands.proofs.Rest.{any_append}
 use Rattle.declaring.specs.Declared.{is_taken, set_numbered, with_kinds, globals_in}
 
 -- ---- names
@@ -33,44 +35,52 @@ among-told t n k e =
     (λ a. lt-ltb k (length t / 8) (omega (arith, e, names-length t, known-place n (names_in t) a)) ∙ sym a)
     (λ a. le-ltb k (length t / 8) (omega (arith, e, names-length t, unknown-place n (names_in t) a)) ∙ sym a)
 
+any_append : {A : Type 0} (test : A → Bool) (s t : List A) → any test (s ++ t) ≡ (any test s || any test t)
+unfolding any
+any_append test [] t = refl
+any_append test (a ∷ s) t = go (test a) (any test s) (any test t) (any_append test s t)
+  where
+    go : (p q r : Bool) → any test (s ++ t) ≡ (q || r) → (p || any test (s ++ t)) ≡ ((p || q) || r)
+    go true q r e = refl
+    go false q r e = e
+
 pub taken-told : (own global n : Bytes) {mine theirs : Bool} → mine ≡ any (same n) (names_in own) → theirs ≡ any (same n) (names_in global)
     → (mine || theirs) ≡ is_taken own global n
 unfolding is_taken
 taken-told own global n e f = (λ i. e i || f i) ∙ sym (any_append (same n) (names_in own) (names_in global))
 
-pub too_short : (n : Bytes) → length n < 3 → starts_with (bytes "SYS") n ≡ false
-unfolding starts_with
-too_short n h = other_length (bytes "SYS") (take 3 n) (λ e. omega (arith, e, h, length-take 3 n))
+pub starts-told : (s t : Bytes) → pointwise eqb s t ≡ same s t
+starts-told [] [] = refl
+starts-told [] (d ∷ t) = refl
+starts-told (c ∷ s) [] = refl
+starts-told (c ∷ s) (d ∷ t) = ap (λ (b : Bool). eqb c d && b) (starts-told s t)
 
 -- ---- kinds
 
-other-told : (set : ℕ) (j k : Set) → set ≡ set_code k → not (eqb set (set_code j)) ≡ not (same_set j k)
-unfolding set_code same_set
-other-told set set_a set_a e = ap (λ (m : ℕ). not (eqb m 0)) e
-other-told set set_a set_b e = ap (λ (m : ℕ). not (eqb m 0)) e
-other-told set set_a set_c e = ap (λ (m : ℕ). not (eqb m 0)) e
-other-told set set_b set_a e = ap (λ (m : ℕ). not (eqb m 1)) e
-other-told set set_b set_b e = ap (λ (m : ℕ). not (eqb m 1)) e
-other-told set set_b set_c e = ap (λ (m : ℕ). not (eqb m 1)) e
-other-told set set_c set_a e = ap (λ (m : ℕ). not (eqb m 2)) e
-other-told set set_c set_b e = ap (λ (m : ℕ). not (eqb m 2)) e
-other-told set set_c set_c e = ap (λ (m : ℕ). not (eqb m 2)) e
+pub numbered-first : (number : ℕ) → number ≡ 1 → set_a ≡ set_numbered number
+unfolding set_numbered
+numbered-first number a = sym (chosen _ _ (eq-eqb number 1 a))
 
-module _ (set number : ℕ) (k : Set) (e : set ≡ set_code k) where
-  other-than : (j : Set) → set_numbered number ≡ j → not (eqb set (set_code j)) ≡ not (same_set (set_numbered number) k)
-  other-than j f = other-told set j k e ∙ sym (ap (λ (i : Set). not (same_set i k)) f)
+pub numbered-second : (number : ℕ) → number ≡ 2 → set_b ≡ set_numbered number
+unfolding set_numbered
+numbered-second number b = sym (passed_over _ _ (ne_eqb number 1 (λ e. omega (arith, e, b))) ∙ chosen _ _ (eq-eqb number 2 b))
 
-  pub other-first : number ≡ 1 → not (eqb set 0) ≡ not (same_set (set_numbered number) k)
-  unfolding set_numbered set_code
-  other-first a = other-than set_a (chosen _ _ (eq-eqb number 1 a))
+pub numbered-third : (number : ℕ) → (number ≡ 1 → ⊥) → (number ≡ 2 → ⊥) → set_c ≡ set_numbered number
+unfolding set_numbered
+numbered-third number a b = sym (passed_over _ _ (ne_eqb number 1 a) ∙ passed_over _ _ (ne_eqb number 2 b))
 
-  pub other-second : (number ≡ 1 → ⊥) → number ≡ 2 → not (eqb set 1) ≡ not (same_set (set_numbered number) k)
-  unfolding set_numbered set_code
-  other-second a b = other-than set_b (passed_over _ _ (ne_eqb number 1 a) ∙ chosen _ _ (eq-eqb number 2 b))
-
-  pub other-third : (number ≡ 1 → ⊥) → (number ≡ 2 → ⊥) → not (eqb set 2) ≡ not (same_set (set_numbered number) k)
-  unfolding set_numbered set_code
-  other-third a b = other-than set_c (passed_over _ _ (ne_eqb number 1 a) ∙ passed_over _ _ (ne_eqb number 2 b))
+-- two sets are the same in the code and in the rules
+pub same-told : (held set : Kept) → sameb the_type held set ≡ same_set (set_of held) (set_of set)
+unfolding same_set
+same-told A A = refl
+same-told A B = refl
+same-told A C = refl
+same-told B A = refl
+same-told B B = refl
+same-told B C = refl
+same-told C A = refl
+same-told C B = refl
+same-told C C = refl
 
 -- ---- the library's globals, one after the other
 

@@ -3,12 +3,9 @@ use Prim.Native.Nat.{ℕ}
 use mathlib.Core.Path.{◌≡◌, refl, sym, ap, ◌∙◌, subst}
 use mathlib.Core.Bool.{true, false, true≢false}
 use native.Mathlib.Omega.{arith}
-use lib.Dec.{T}
 use lib.IntN.{ℤ, pos, negsuc, nat_abs}
-use lib.Signed.{lt_z, non_neg}
+use lib.Signed.{lt_z}
 use borrow.Author.Tests.{ltb-true, ltb-false, le-leb, lt-leb}
-use mir.Syntax.{w16}
-use mir.Val.{Fits}
 use Rattle.rules.specs.Limits.{bad_value, counter_limit}
 use Rattle.rules.specs.Decide.{renew, refuse, renewed}
 use Rattle.rules.proofs.Choices.{chosen, passed_over}
@@ -30,10 +27,6 @@ within : (left : ℕ) (z : ℤ) → lt_z z (pos 0) ≡ false → lt_z (pos 4096)
 unfolding renewed
 within left (pos n) h k = chosen _ _ (le-leb n counter_limit (omega (arith, ltb-false 4096 n k)))
 within left (negsuc n) h k = absurd (true≢false h)
-
-pub small : (z : ℤ) → lt_z z (pos 0) ≡ false → lt_z (pos 4096) z ≡ false → T (non_neg z) × Fits w16 (nat_abs z)
-small (pos n) h k = (tt, record { fits = omega (arith, ltb-false 4096 n k) })
-small (negsuc n) h k = absurd (true≢false h)
 
 module _ (run : Run) (r : Stepped) (z : ℤ) where
   pub counts-below : lt_z z (pos 0) ≡ true → ((left : ℕ) → Arm run (refuse bad_value left) r) → (left : ℕ) → Arm run (renewed left z) r

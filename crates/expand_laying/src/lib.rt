@@ -16,11 +16,25 @@ const LINE_LIMIT: usize = 71;
 // What is kept of a field's bytes.
 const FIELD_LIMIT: usize = 255;
 
+// How many bytes stand before the operation and before the operand, where there is room.
+const OPERATION: usize = 9;
+
+const OPERAND: usize = 15;
+
 // A text's true length, and its length without trailing spaces.
 #[derive(Clone, Copy)]
 pub struct Field {
     pub size: usize,
     pub solid: usize,
+}
+
+impl Field {
+    // So many spaces.
+    fn spaces(size: usize) -> Self
+        ensures { (result.size ≡ size) × (result.solid ≡ 0) }
+    {
+        Self { size, solid: 0 }
+    }
 }
 
 // The three fields of a model statement.
@@ -35,31 +49,28 @@ pub struct Model {
 pub fn solid_of(s: &[u8]) -> usize
     ensures { result ≡ solid_in s.now }
 {
-    let mut n = s.len();
-    while 0 < n {
-        if s[n - 1] != b' ' {
-            return n;
+    for at in (0..s.len()).rev() {
+        if s[at] != b' ' {
+            return at + 1;
         }
-        n -= 1;
     }
     0
 }
 
 // The lengths of a text with another behind it.
+#[tactic(auto, unfolding(crate::specs::Solid::solid_both, rules::specs::Choice::choose))]
 fn both(f: Field, g: Field) -> Field
     requires { (g.solid ≤ g.size) × (f.size + g.size < 2 ^ 64) }
     ensures { (result.size ≡ f.size + g.size) × (result.solid ≡ solid_both f.size f.solid g.solid) }
 {
-    let at = f.size;
-    let size = at + g.size;
-    let more = g.solid;
-    if more == 0 {
-        let solid = f.solid;
-        return Field { size, solid };
-    }
+    let solid = if g.solid == 0 {
+        f.solid
+    } else {
+        f.size + g.solid
+    };
     Field {
-        size,
-        solid: at + more,
+        size: f.size + g.size,
+        solid,
     }
 }
 
@@ -68,10 +79,9 @@ fn copy_front(out: &mut [u8], limit: usize, at: usize, s: &[u8])
     requires { limit ≤ length out.old }
     ensures { out.new ≡ splice out.old at (part_of s.now 0 (limit - at)) }
 {
-    if limit <= at {
-        return;
+    if at < limit {
+        lent::copy(out, at, spans::part(s, 0, limit - at));
     }
-    lent::copy(out, at, spans::part(s, 0, limit - at));
 }
 
 // A text behind another, of which so many bytes are kept.
@@ -96,6 +106,7 @@ pub fn append_field(out: &mut [u8], f: Field, s: &[u8]) -> Field
 }
 
 // How many spaces stand between a line of n bytes and the field that follows.
+#[tactic(auto, unfolding(crate::specs::Solid::gap, rules::specs::Choice::choose))]
 fn gap(before: usize, n: usize) -> usize
     ensures { result ≡ gap_of before n }
 {
@@ -107,17 +118,8 @@ fn put(line: &mut [u8], before: usize, l: Field, s: &[u8], f: Field) -> Field
     requires { (line_limit ≤ length line.old) × (before ≤ 15) × (line_limit ≤ length s.now) × (f.solid ≤ f.size) × (l.size + f.size + 16 < 2 ^ 64) }
     ensures { kept_in line_limit line.new result ≡ put_kept before (kept_in line_limit line.old l) (kept_in line_limit s.now f) }
 {
-    let count = gap(before, l.size);
-    let spaced = add(
-        line,
-        LINE_LIMIT,
-        l,
-        b"               ",
-        Field {
-            size: count,
-            solid: 0,
-        },
-    );
+    let spaces = Field::spaces(gap(before, l.size));
+    let spaced = add(line, LINE_LIMIT, l, b"               ", spaces);
     add(line, LINE_LIMIT, spaced, s, f)
 }
 
@@ -126,13 +128,10 @@ pub fn lay(line: &mut [u8], name: &[u8], operation: &[u8], operand: &[u8], m: Mo
     requires { (line_limit ≤ length line.old) × (line_limit ≤ length name.now) × (line_limit ≤ length operation.now) × (line_limit ≤ length operand.now) × (m.name.solid ≤ m.name.size) × (m.operation.solid ≤ m.operation.size) × (m.operand.solid ≤ m.operand.size) × (m.name.size + m.operation.size + m.operand.size + 32 < 2 ^ 64) }
     ensures { kept_in line_limit line.new result ≡ laid_kept (kept_in line_limit name.now m.name) (kept_in line_limit operation.now m.operation) (kept_in line_limit operand.now m.operand) }
 {
-    let first = m.name;
-    let second = m.operation;
-    let third = m.operand;
-    let start = add(line, LINE_LIMIT, Field { size: 0, solid: 0 }, name, first);
-    let operated = put(line, 9, start, operation, second);
-    if third.size == 0 {
+    let start = add(line, LINE_LIMIT, Field::spaces(0), name, m.name);
+    let operated = put(line, OPERATION, start, operation, m.operation);
+    if m.operand.size == 0 {
         return operated;
     }
-    put(line, 15, operated, operand, third)
+    put(line, OPERAND, operated, operand, m.operand)
 }

@@ -20,6 +20,7 @@ impl Level {
     pub const COUNTER: u16 = 4096;
 
     // The level that a call enters.
+    #[tactic(auto, unfolding(crate::specs::Stands::level_of, crate::specs::Stands::fresh_of))]
     pub fn enter(body: u16, number: u16) -> Self
         ensures { (t : Texts) → level_of result t ≡ fresh_of body number t }
     {
@@ -39,55 +40,40 @@ impl Level {
     }
 
     // A taken AIF or AGO.
+    #[tactic(auto, unfolding(crate::specs::Stands::level_of, rules::specs::Machine::jumped))]
     pub fn branch(self, to: u16) -> Self
         ensures { (t : Texts) → level_of result t ≡ jumped to (level_of self t) }
     {
-        let counter = self.counter;
-        if counter == 0 {
-            return Level {
-                body: self.body,
-                line: to,
-                counter: 0,
-                number: self.number,
-            };
-        }
         Level {
-            body: self.body,
             line: to,
-            counter: counter - 1,
-            number: self.number,
+            counter: self.counter.saturating_sub(1),
+            ..self
         }
     }
 
     // The level at its next line; 65,535 is the last there is.
+    #[tactic(auto, unfolding(crate::specs::Stands::level_of, rules::specs::Machine::advanced, rules::specs::Choice::choose))]
     pub fn advance(self) -> Self
         ensures { (t : Texts) → level_of result t ≡ choose (ltb self.line 65535) (advanced (level_of self t)) (level_of self t) }
     {
-        let line = self.line;
-        if 65535 <= line {
-            return self;
-        }
         Level {
-            body: self.body,
-            line: line + 1,
-            counter: self.counter,
-            number: self.number,
+            line: self.line.saturating_add(1),
+            ..self
         }
     }
 
     // ACTR: the counter anew, and the next line; 65,535 is the last there is.
+    #[tactic(auto, unfolding(crate::specs::Stands::level_of, rules::specs::Machine::renewed_to, rules::specs::Choice::choose))]
     pub fn renew(self, counter: u16) -> Self
         ensures { (t : Texts) → level_of result t ≡ choose (ltb self.line 65535) (renewed_to counter (level_of self t)) (level_of self t) }
     {
-        let line = self.line;
-        if 65535 <= line {
-            return self;
-        }
-        Level {
-            body: self.body,
-            line: line + 1,
-            counter,
-            number: self.number,
+        match self.line.checked_add(1) {
+            Some(line) => Level {
+                line,
+                counter,
+                ..self
+            },
+            None => self,
         }
     }
 }
@@ -96,13 +82,6 @@ impl Level {
 #[derive(Clone, Copy)]
 pub struct CallNumber {
     pub given: u16,
-}
-
-// The next number, if there is one.
-#[derive(Clone, Copy)]
-pub enum Numbered {
-    Call(CallNumber),
-    Spent,
 }
 
 impl CallNumber {
@@ -119,22 +98,23 @@ impl CallNumber {
         }
     }
 
-    // One more call.
-    pub fn next(self) -> Numbered
+    // One more call, or none: all numbers are given out.
+    #[tactic(auto, unfolding(crate::specs::Stands::numbered_of, rules::specs::Choice::choose))]
+    pub fn next(self) -> Option<Self>
         ensures { result ≡ numbered_of self.given }
     {
         let given = self.given;
         if given < CallNumber::LAST {
-            return Numbered::Call(CallNumber { given: given + 1 });
+            return Some(Self { given: given + 1 });
         }
-        Numbered::Spent
+        None
     }
 }
 
 // The levels that run: `depth` of them, the outermost first.
 #[derive(Clone, Copy)]
 pub struct Running {
-    pub levels: [Level; 5],
+    pub levels: [Level; Running::DEEPEST],
     pub depth: usize,
 }
 
@@ -142,6 +122,7 @@ impl Running {
     pub const DEEPEST: usize = 5;
 
     // Before the first call: no level runs.
+    #[tactic(auto, unfolding(crate::specs::Stack::none_run, crate::specs::Stack::no_level))]
     pub fn none() -> Self
         ensures { result ≡ none_run }
     {
@@ -151,31 +132,34 @@ impl Running {
             counter: 0,
             number: 0,
         };
-        let levels = [level; 5];
-        Running { levels, depth: 0 }
+        Self {
+            levels: [level; Self::DEEPEST],
+            depth: 0,
+        }
     }
 
     // The level that runs.
+    #[tactic(auto, unfolding(crate::specs::Stack::top_of, crate::specs::Stack::no_level))]
     pub fn top(self) -> Level
         requires { (0 < self.depth) × Sized self }
         ensures { result ≡ top_of self }
     {
-        let at = self.depth - 1;
-        self.levels[at]
+        self.levels[self.depth - 1]
     }
 
     // A call: the level that runs waits, and this one runs.
+    #[tactic(auto, unfolding(crate::specs::Stack::pushed))]
     pub fn enter(mut self, level: Level) -> Self
-        requires { (self.depth < 5) × Sized self }
+        requires { self.depth < 5 }
         ensures { result ≡ pushed level self }
     {
-        let depth = self.depth;
-        self.levels[depth] = level;
-        self.depth = depth + 1;
+        self.levels[self.depth] = level;
+        self.depth += 1;
         self
     }
 
     // The level that ran has ended: its caller runs again.
+    #[tactic(auto, unfolding(crate::specs::Stack::popped))]
     pub fn leave(mut self) -> Self
         requires { 0 < self.depth }
         ensures { result ≡ popped self }
@@ -185,12 +169,12 @@ impl Running {
     }
 
     // The level that runs has come to be this one.
+    #[tactic(auto, unfolding(crate::specs::Stack::topped))]
     pub fn with_top(mut self, level: Level) -> Self
         requires { (0 < self.depth) × Sized self }
         ensures { result ≡ topped level self }
     {
-        let at = self.depth - 1;
-        self.levels[at] = level;
+        self.levels[self.depth - 1] = level;
         self
     }
 }

@@ -1,14 +1,15 @@
 -- What a line of output means for the rules' output: its bytes, its room, the section's name. Assumes nothing.
 use Prim.Native.Nat.{ℕ, suc, ◌+◌, ◌-◌, ◌≤◌, ◌<◌}
 use mathlib.Core.Path.{◌≡◌, refl, sym, ap, ◌∙◌}
-use mathlib.Core.Bool.{Bool, true, false, true≢false, ◌||◌, not}
+use mathlib.Core.Bool.{Bool, true, false, true≢false}
 use mathlib.Core.List.{List, [], ◌∷◌, ◌++◌, append_assoc}
 use native.Mathlib.Omega.{arith}
 use lib.Dec.{ltb}
 use lib.ListN.{length, take, drop, set, length-append, length-take}
 use lib.Seq.{take_at, take-take, length-take-le, take-append_seam}
 use borrow.Author.Tests.{ltb-true, ltb-false, le-ltb, lt-ltb}
-use Rattle.text.specs.Bytes.{Bytes, bytes, same}
+use Rattle.std.specs.Prelude.{Option, Some, None}
+use Rattle.text.specs.Bytes.{Bytes}
 use Rattle.rules.specs.Choice.{choose, run}
 use Rattle.rules.specs.Fields.{newline, is_no_space, is_remark, no_fields, fields_of, statement_fields}
 use Rattle.rules.specs.Machine.{is_section, sect_after, output_of}
@@ -19,8 +20,6 @@ use Rattle.spans.specs.Spans.{part_of}
 use Rattle.work_frames.specs.Layout.{section_at, section_size}
 use Rattle.work_frames.specs.Frames.{run_at, section_now}
 use Rattle.expand_output.specs.Puts.{put_at, with_line, noted}
-use Rattle.expand_output.specs.declared.Put.{Put}
-use Rattle.expand_output.specs.declared.Put.TheVariants.{To, NoRoom}
 
 -- ---- what the code writes
 
@@ -35,11 +34,11 @@ pub line-left : (out : Bytes) (pos : ℕ) (line : Bytes) → length out - pos �
 unfolding with_line
 line-left out pos line h = sym (passed_over _ _ (le-ltb _ _ h))
 
-pub put-to : (room pos n : ℕ) → n < room - pos → To (pos + n + 1) ≡ put_at room pos n
+pub put-to : (room pos n : ℕ) → n < room - pos → Some (pos + n + 1) ≡ put_at room pos n
 unfolding put_at
-put-to room pos n h = let e : pos + n + 1 ≡ pos + suc n = omega arith in ap To e ∙ sym (chosen _ _ (lt-ltb _ _ h))
+put-to room pos n h = let e : pos + n + 1 ≡ pos + suc n = omega arith in ap Some e ∙ sym (chosen _ _ (lt-ltb _ _ h))
 
-pub put-not : (room pos n : ℕ) → room - pos ≤ n → NoRoom ≡ put_at room pos n
+pub put-not : (room pos n : ℕ) → room - pos ≤ n → None ≡ put_at room pos n
 unfolding put_at
 put-not room pos n h = sym (passed_over _ _ (le-ltb _ _ h))
 
@@ -51,37 +50,16 @@ name-short line = go (is_remark line)
     go true = omega arith
     go false = let n = run is_no_space line in rw (length-take n line) (omega arith)
 
-module _ (o : Bytes) where
-  pub is-csect : same o (bytes "CSECT") ≡ true → true ≡ is_section o
-  unfolding is_section
-  is-csect e = sym (ap (λ b. b || (same o (bytes "DSECT") || same o (bytes "START"))) e)
-
-  pub is-dsect : same o (bytes "CSECT") ≡ false → same o (bytes "DSECT") ≡ true → true ≡ is_section o
-  unfolding is_section
-  is-dsect e f = sym (ap (λ b. b || (same o (bytes "DSECT") || same o (bytes "START"))) e ∙ ap (λ b. b || same o (bytes "START")) f)
-
-  pub is-start : same o (bytes "CSECT") ≡ false → same o (bytes "DSECT") ≡ false → same o (bytes "START") ≡ is_section o
-  unfolding is_section
-  is-start e f = sym (ap (λ b. b || (same o (bytes "DSECT") || same o (bytes "START"))) e ∙ ap (λ b. b || same o (bytes "START")) f)
-
-is-so : (t : Bool) → not t ≡ false → t ≡ true
-is-so true e = refl
-is-so false e = absurd (true≢false e)
-
-is-not : (t : Bool) → not t ≡ true → t ≡ false
-is-not true e = absurd (true≢false (sym e))
-is-not false e = refl
-
-pub section-written : (w line name : Bytes) (t : Bool) → t ≡ is_section (statement_fields line).operation → not t ≡ false → name ≡ (statement_fields line).name
+pub section-written : (w line name : Bytes) (t : Bool) → t ≡ is_section (statement_fields line).operation → t ≡ true → name ≡ (statement_fields line).name
     → splice (set w section_at (length name)) (section_at + 1) name ≡ noted w line
 unfolding noted
 section-written w line name t is e f =
     splice-cons w section_at (length name) name ∙ ap (λ n. splice w section_at (length n ∷ n)) f
-    ∙ sym (chosen _ _ (sym is ∙ is-so t e))
+    ∙ sym (chosen _ _ (sym is ∙ e))
 
-pub section-stays : (w line : Bytes) (t : Bool) → t ≡ is_section (statement_fields line).operation → not t ≡ true → w ≡ noted w line
+pub section-stays : (w line : Bytes) (t : Bool) → t ≡ is_section (statement_fields line).operation → t ≡ false → w ≡ noted w line
 unfolding noted
-section-stays w line t is e = sym (passed_over _ _ (sym is ∙ is-not t e))
+section-stays w line t is e = sym (passed_over _ _ (sym is ∙ e))
 
 -- ---- what is read back
 
@@ -140,25 +118,25 @@ module _ (out : Bytes) (pos : ℕ) (line : Bytes) (h : length line < length out 
       ∙ take_at (take pos out ++ s) (drop (pos + length s) out) (pos + suc (length line)) n
 
 -- what an answer says
-module _ (r : Put) (room pos n : ℕ) (is : r ≡ put_at room pos n) where
-  to_put : Put → ℕ
-  to_put (To k) = k
-  to_put NoRoom = 0
+module _ (r : Option ℕ) (room pos n : ℕ) (is : r ≡ put_at room pos n) where
+  to_put : Option ℕ → ℕ
+  to_put (Some k) = k
+  to_put None = 0
 
-  is_to : Put → Bool
-  is_to (To k) = true
-  is_to NoRoom = false
+  is_to : Option ℕ → Bool
+  is_to (Some k) = true
+  is_to None = false
 
-  pub put-fits : (k : ℕ) → r ≡ To k → (n < room - pos) × (k ≡ pos + suc n)
+  pub put-fits : (k : ℕ) → r ≡ Some k → (n < room - pos) × (k ≡ pos + suc n)
   unfolding put_at to_put is_to
   put-fits k e =
       by (ltb n (room - pos))
-      (λ t. (ltb-true n (room - pos) t, ap to_put (sym e ∙ is ∙ chosen (To (pos + suc n)) NoRoom t)))
-      (λ t. absurd (true≢false (ap is_to (sym e ∙ is ∙ passed_over (To (pos + suc n)) NoRoom t))))
+      (λ t. (ltb-true n (room - pos) t, ap to_put (sym e ∙ is ∙ chosen (Some (pos + suc n)) None t)))
+      (λ t. absurd (true≢false (ap is_to (sym e ∙ is ∙ passed_over (Some (pos + suc n)) None t))))
 
-  pub put_refused : r ≡ NoRoom → room - pos ≤ n
+  pub put_refused : r ≡ None → room - pos ≤ n
   unfolding put_at is_to
   put_refused e =
       by (ltb n (room - pos))
-      (λ t. absurd (true≢false (sym (ap is_to (sym e ∙ is ∙ chosen (To (pos + suc n)) NoRoom t)))))
+      (λ t. absurd (true≢false (sym (ap is_to (sym e ∙ is ∙ chosen (Some (pos + suc n)) None t)))))
       (λ t. ltb-false n (room - pos) t)

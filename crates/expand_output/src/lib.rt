@@ -5,39 +5,29 @@ ghost use Rattle.std.specs.Prelude.{◌≡◌, ◌≤◌, length};
 ghost use Rattle.rules.specs.Machine.{is_section};
 ghost use Rattle.expand_output.specs.Puts.{put_at, with_line, noted};
 
-// Where the output goes on, or that there is no room.
-#[derive(Clone, Copy)]
-pub enum Put {
-    To(usize),
-    NoRoom,
-}
-
-// A line and its newline, from `pos` on.
-pub fn put_out(out: &mut [u8], pos: usize, line: &[u8]) -> Put
+// A line and its newline, from `pos` on: where the output goes on, or none where there is no room.
+pub fn put_out(out: &mut [u8], pos: usize, line: &[u8]) -> Option<usize>
     requires { pos ≤ length out.old }
     ensures { (result ≡ put_at (length out.old) pos (length line.now)) × (out.new ≡ with_line out.old pos line.now) }
 {
     let size = line.len();
     if out.len() - pos <= size {
-        return Put::NoRoom;
+        return None;
     }
     lent::copy(out, pos, line);
     let end = pos + size;
     out[end] = b'\n';
-    Put::To(end + 1)
+    Some(end + 1)
 }
 
 // Whether an operation starts a section.
+#[tactic(auto, unfolding(rules::specs::Machine::is_section))]
 pub fn is_section(operation: &[u8]) -> bool
     ensures { result ≡ is_section operation.now }
 {
-    if lent::equal(operation, b"CSECT") {
-        return true;
-    }
-    if lent::equal(operation, b"DSECT") {
-        return true;
-    }
-    lent::equal(operation, b"START")
+    lent::equal(operation, b"CSECT")
+        || lent::equal(operation, b"DSECT")
+        || lent::equal(operation, b"START")
 }
 
 // The section's name behind a line of output.
@@ -45,10 +35,9 @@ pub fn note_section(work: &mut [u8], line: &[u8])
     requires { (27464 ≤ length work.old) × (length line.now ≤ 71) }
     ensures { work.new ≡ noted work.old line.now }
 {
-    if !is_section(statements::operation_of(line)) {
-        return;
+    if is_section(statements::operation_of(line)) {
+        let name = statements::name_of(line);
+        work[work_frames::SECTION] = name.len() as u8;
+        lent::copy(work, work_frames::SECTION + 1, name);
     }
-    let name = statements::name_of(line);
-    work[27392] = name.len() as u8;
-    lent::copy(work, 27393, name);
 }

@@ -1,5 +1,5 @@
 -- What the arms that write nothing make of the machine's state. Assumes nothing.
-use Prim.Native.Nat.{ℕ, zero, suc, ◌+◌, ◌-◌, ◌≤◌, ◌<◌}
+use Prim.Native.Nat.{ℕ, zero, suc, ◌+◌, ◌-◌, ◌<◌}
 use mathlib.Core.Path.{◌≡◌, refl, sym, ap, ◌∙◌, subst}
 use mathlib.Core.Bool.{Bool, true, false}
 use mathlib.Core.List.{List, [], ◌∷◌, ◌++◌}
@@ -25,6 +25,10 @@ use Rattle.work_frames.specs.Frames.{texts_in, macro_of, running_in, waiting_in}
 use Rattle.work_frames.proofs.Elsewhere.{waiting-behind}
 use Rattle.expand_steps.specs.Moving.{StandsFor, top_in, others_in, body_of, Listed, stopped, Moves, goes, halts, Sound, Arm}
 use Rattle.expand_steps.specs.Runs.{with_running, goes_on, stops_by}
+use Rattle.refusals.specs.declared.Fault.{Fault}
+use Rattle.refusals.specs.declared.Fault.TheVariants.{CounterSpent}
+use Rattle.refusals.specs.Numbers.{number_of}
+use Rattle.expand_steps.specs.declared.Halt.TheVariants.{Refused}
 use Rattle.expand_steps.specs.declared.Run.{Run}
 use Rattle.expand_steps.specs.declared.Stepped.{Stepped}
 
@@ -153,27 +157,27 @@ body_is d deck program out w run s z h =
     (λ e. let some : 0 < run.running.depth = omega (arith, nonzero run.running.depth (eqb-false run.running.depth 0 e)) in
     ap body_line (levels-are run z some d deck w) ∙ line-is run z some d deck w ∙ sym (passed_over 0 (suc (top_of run.running).line) e))
 
-pub refused-listed : (d : Deck) (deck program out w : Bytes) (run : Run) (s : State) (e at : ℕ) → Sized run.running → 1 ≤ e → e ≤ 16 → StandsFor d deck program out w run s
-    → Listed out (stops_by e at run) (refused_at e s)
+pub refused-listed : (d : Deck) (deck program out w : Bytes) (run : Run) (s : State) (f : Fault) (at : ℕ) → Sized run.running → StandsFor d deck program out w run s
+    → Listed out (stops_by (Refused f at) run) (refused_at (number_of f) s)
 unfolding stops_by refused_at
-refused-listed d deck program out w run s e at z low high h =
+refused-listed d deck program out w run s f at z h =
     let b = body_is d deck program out w run s z h in
-    subst (Listed out (stops_by e at run)) (λ j. refused e (sym h.open-line j) (sym b j) (sym h.steps-taken j)) (stopped e refl low high)
+    subst (Listed out (stops_by (Refused f at) run)) (λ j. refused (number_of f) (sym h.open-line j) (sym b j) (sym h.steps-taken j)) (stopped (number_of f) refl)
 
-pub refused-so : (d : Deck) (deck program out w : Bytes) (run : Run) (s : State) (e at : ℕ) → Sized run.running → 1 ≤ e → e ≤ 16 → StandsFor d deck program out w run s
-    → Moves d deck program out w (stops_by e at run) (refuses e s)
+pub refused-so : (d : Deck) (deck program out w : Bytes) (run : Run) (s : State) (f : Fault) (at : ℕ) → Sized run.running → StandsFor d deck program out w run s
+    → Moves d deck program out w (stops_by (Refused f at) run) (refuses (number_of f) s)
 unfolding refuses
-refused-so d deck program out w run s e at z low high h = halts (refused-listed d deck program out w run s e at z low high h)
+refused-so d deck program out w run s f at z h = halts (refused-listed d deck program out w run s f at z h)
 
-pub refusing : (run : Run) (z : Sized run.running) (e at : ℕ) → 1 ≤ e → e ≤ 16 → (act : Act)
-    → ((d : Deck) (deck program out w : Bytes) (s : State) → StandsFor d deck program out w run s → acts (machine_of_deck d) act (top_in d deck w run) (others_in d deck w run) s ≡ refuses e s)
-    → Arm run act (stops_by e at run)
+pub refusing : (run : Run) (z : Sized run.running) (f : Fault) (at : ℕ) (act : Act)
+    → ((d : Deck) (deck program out w : Bytes) (s : State) → StandsFor d deck program out w run s → acts (machine_of_deck d) act (top_in d deck w run) (others_in d deck w run) s ≡ refuses (number_of f) s)
+    → Arm run act (stops_by (Refused f at) run)
 unfolding stops_by
-refusing run z e at low high act a = record {
+refusing run z f at act a = record {
   sound = λ program out h. h;
   same-steps = refl;
   same-pos = refl;
-  moved = λ d deck program out w s h. subst (Moves d deck program out w (stops_by e at run)) (sym (a d deck program out w s h)) (refused-so d deck program out w run s e at z low high h);
+  moved = λ d deck program out w s h. subst (Moves d deck program out w (stops_by (Refused f at) run)) (sym (a d deck program out w s h)) (refused-so d deck program out w run s f at z h);
 }
 
 -- ---- each act, from what the code's functions say
@@ -211,12 +215,12 @@ module _ (run : Run) (z : Sized run.running) (some : 0 < run.running.depth) (r :
         (λ d t ls s c. passed_over (refuses counter_spent s) (on (with_levels (jumped to t ∷ ls) s)) (ap (λ n. eqb n 0) (c ∙ ap (λ (k : Level). k.counter) (sym is)) ∙ sym tests ∙ h)))
 
 module _ (run : Run) (z : Sized run.running) (r : Stepped) where
-  pub spent : (to at : ℕ) (top : Level) (b : Bool) → top ≡ top_of run.running → b ≡ eqb top.counter 0 → b ≡ true → r ≡ stops_by counter_spent at run → Arm run (jump to) r
+  pub spent : (to at : ℕ) (top : Level) (b : Bool) → top ≡ top_of run.running → b ≡ eqb top.counter 0 → b ≡ true → r ≡ stops_by (Refused CounterSpent at) run → Arm run (jump to) r
   unfolding acts top_in running_in level_of
   spent to at top b is tests h e =
       let zero_left : eqb (top_of run.running).counter 0 ≡ true = ap (λ (k : Level). eqb k.counter 0) (sym is) ∙ sym tests ∙ h in
-      subst (Arm run (jump to)) (sym e) (refusing run z counter_spent at (omega arith) (omega arith) (jump to) (λ d deck program out w s k. chosen _ _ zero_left))
+      subst (Arm run (jump to)) (sym e) (refusing run z CounterSpent at (jump to) (λ d deck program out w s k. chosen _ _ zero_left))
 
-  pub refused-line : (e at left : ℕ) → 1 ≤ e → e ≤ 16 → r ≡ stops_by e at run → Arm run (refuse e left) r
+  pub refused-line : (f : Fault) (at left : ℕ) → r ≡ stops_by (Refused f at) run → Arm run (refuse (number_of f) left) r
   unfolding acts
-  refused-line e at left low high is = subst (Arm run (refuse e left)) (sym is) (refusing run z e at low high (refuse e left) (λ d deck program out w s k. refl))
+  refused-line f at left is = subst (Arm run (refuse (number_of f) left)) (sym is) (refusing run z f at (refuse (number_of f) left) (λ d deck program out w s k. refl))

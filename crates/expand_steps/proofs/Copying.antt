@@ -8,8 +8,8 @@ use native.Mathlib.Omega.{arith}
 use lib.Dec.{ltb}
 use lib.ListN.{length, drop}
 use borrow.Author.Tests.{lt-ltb, le-ltb}
+use Rattle.std.specs.Prelude.{Option, Some, None}
 use Rattle.text.specs.Bytes.{Bytes}
-use Rattle.rules.specs.Limits.{no_room}
 use Rattle.rules.specs.Fields.{newline}
 use Rattle.rules.specs.Machine.{State, sect_after, put_out, puts}
 use Rattle.rules.proofs.Choices.{chosen, passed_over}
@@ -22,8 +22,8 @@ use Rattle.work_frames.specs.Layout.{section_at}
 use Rattle.work_frames.specs.Frames.{index_in, shared_in}
 use Rattle.work_frames.proofs.Elsewhere.{section-elsewhere, waiting-apart, shared-apart, rows_apart}
 use Rattle.expand_output.specs.Puts.{put_at, with_line, noted}
-use Rattle.expand_output.specs.declared.Put.{Put}
-use Rattle.expand_output.specs.declared.Put.TheVariants.{To, NoRoom}
+use Rattle.refusals.specs.declared.Fault.TheVariants.{NoRoom}
+use Rattle.expand_steps.specs.declared.Halt.TheVariants.{Refused}
 use Rattle.expand_output.proofs.Laid.{noted-section, noted-there, output-more, line-there, line-front, line-behind, line-left, put-fits, put_refused}
 use Rattle.expand_steps.specs.Moving.{StandsFor, Moves, goes}
 use Rattle.expand_steps.specs.Writing.{Modest, levels_in, Copied}
@@ -109,7 +109,7 @@ module _ (deck out w line : Bytes) (run : Run) (running : Running) (written : ru
     }
 
   -- there is none
-  pub not-copied : length out - run.pos ≤ length line → Copied deck out w line run running out w (stops_by no_room 0 run)
+  pub not-copied : length out - run.pos ≤ length line → Copied deck out w line run running out w (stops_by (Refused NoRoom 0) run)
   unfolding stops_by puts
   not-copied h = record {
     sound = λ program s known fewer. s;
@@ -118,19 +118,19 @@ module _ (deck out w line : Bytes) (run : Run) (running : Running) (written : ru
     same-steps = refl;
     moved = λ d program s m k.
         let room : ltb (length line) s.output.room ≡ false = ap (ltb (length line)) k.room-left ∙ le-ltb _ _ h in
-        subst (Moves d deck program out w (stops_by no_room 0 run)) (sym (passed_over _ _ room)) (refused-so d deck program out w run s no_room 0 z (omega arith) (omega arith) k);
+        subst (Moves d deck program out w (stops_by (Refused NoRoom 0) run)) (sym (passed_over _ _ room)) (refused-so d deck program out w run s NoRoom 0 z k);
   }
 
   -- from what the code's functions say
-  module _ (put : Put) (is : put ≡ put_at (length out) run.pos (length line)) (r : Stepped) (o v : Bytes) (wrote : o ≡ with_line out run.pos line) where
-    pub copied-told : (end : ℕ) → put ≡ To end → v ≡ noted w line → r ≡ goes_on (put_to end running run) → Copied deck out w line run running o v r
+  module _ (put : Option ℕ) (is : put ≡ put_at (length out) run.pos (length line)) (r : Stepped) (o v : Bytes) (wrote : o ≡ with_line out run.pos line) where
+    pub copied-told : (end : ℕ) → put ≡ Some end → v ≡ noted w line → r ≡ goes_on (put_to end running run) → Copied deck out w line run running o v r
     copied-told end e n g =
         let f = put-fits put (length out) run.pos (length line) is end e in
         let g' : r ≡ goes_on (put_to (run.pos + suc (length line)) running run) = g ∙ ap (λ k. goes_on (put_to k running run)) f.1 in
         subst (λ x. Copied deck out w line run running x v r) (sym wrote) (subst (λ x. Copied deck out w line run running (with_line out run.pos line) x r) (sym n)
         (subst (Copied deck out w line run running (with_line out run.pos line) (noted w line)) (sym g') (copied f.0)))
 
-    pub not-copied-told : put ≡ NoRoom → v ≡ w → r ≡ stops_by no_room 0 run → Copied deck out w line run running o v r
+    pub not-copied-told : put ≡ None → v ≡ w → r ≡ stops_by (Refused NoRoom 0) run → Copied deck out w line run running o v r
     not-copied-told e n g =
         let f = put_refused put (length out) run.pos (length line) is e in
         subst (λ x. Copied deck out w line run running x v r) (sym (wrote ∙ sym (line-left out run.pos line f))) (subst (λ x. Copied deck out w line run running out x r) (sym n)

@@ -9,7 +9,6 @@ use lib.ListN.{length}
 use Rattle.text.specs.Bytes.{Bytes}
 use Rattle.text.specs.Words.{words, place_among, word_number}
 use Rattle.rules.specs.Choice.{every}
-use Rattle.rules.specs.Limits.{bad_byte, language_word}
 use Rattle.rules.specs.Fields.{is_ill_written, statement_fields}
 use Rattle.rules.specs.Library.{operation_of}
 use Rattle.rules.specs.Machine.{State, Move, is_title, is_language_word, uses}
@@ -25,6 +24,9 @@ use Rattle.work_frames.specs.Indexed.{macros_in, title_rows}
 use Rattle.expand_steps.specs.Moving.{StandsFor, Moves, unready}
 use Rattle.expand_steps.specs.Writing.{Ready, Writes, Copied, Used}
 use Rattle.expand_steps.specs.Runs.{stops_by}
+use Rattle.refusals.specs.declared.Fault.TheVariants.{BadByte, LanguageWord}
+use Rattle.expand_steps.specs.declared.Halt.{Halt}
+use Rattle.expand_steps.specs.declared.Halt.TheVariants.{Refused, Unready}
 use Rattle.expand_steps.specs.declared.Run.{Run}
 use Rattle.expand_steps.specs.declared.Stepped.{Stepped}
 use Rattle.expand_steps.proofs.Acting.{refused-so}
@@ -46,9 +48,9 @@ word-told line op k is e = ap (λ n. ltb n 16) (e ∙ ap (place_among words) is)
 
 -- ---- a line
 
-none_so : (deck out w : Bytes) (run : Run) (running : Running) (e : ℕ) (moving : Deck → State → Move)
-    → ((d : Deck) (program : Bytes) (s : State) → Ready d deck (index_in w) → StandsFor d deck program out w run s → Moves d deck program out w (stops_by e 0 run) (moving d s))
-    → Writes deck out w run running out w (stops_by e 0 run) moving
+none_so : (deck out w : Bytes) (run : Run) (running : Running) (e : Halt) (moving : Deck → State → Move)
+    → ((d : Deck) (program : Bytes) (s : State) → Ready d deck (index_in w) → StandsFor d deck program out w run s → Moves d deck program out w (stops_by e run) (moving d s))
+    → Writes deck out w run running out w (stops_by e run) moving
 unfolding stops_by
 none_so deck out w run running e moving h = record {
   sound = λ program s known fewer. s;
@@ -59,28 +61,28 @@ none_so deck out w run running e moving h = record {
 }
 
 -- nothing is written
-module _ (deck out w : Bytes) (run : Run) (running : Running) (r : Stepped) (e : ℕ) (is : r ≡ stops_by e 0 run) where
+module _ (deck out w : Bytes) (run : Run) (running : Running) (r : Stepped) (e : Halt) (is : r ≡ stops_by e run) where
   pub writes-none : (moving : Deck → State → Move)
-      → ((d : Deck) (program : Bytes) (s : State) → Ready d deck (index_in w) → StandsFor d deck program out w run s → Moves d deck program out w (stops_by e 0 run) (moving d s))
+      → ((d : Deck) (program : Bytes) (s : State) → Ready d deck (index_in w) → StandsFor d deck program out w run s → Moves d deck program out w (stops_by e run) (moving d s))
       → Writes deck out w run running out w r moving
   writes-none moving h = subst (λ x. Writes deck out w run running out w x moving) (sym is) (none_so deck out w run running e moving h)
 
 module _ (deck out w line : Bytes) (run : Run) (running : Running) (z : Sized run.running) (r : Stepped) where
-  pub used-ill : is_ill_written line ≡ true → r ≡ stops_by bad_byte 0 run → Used deck out w line run running out w r
+  pub used-ill : is_ill_written line ≡ true → r ≡ stops_by (Refused BadByte 0) run → Used deck out w line run running out w r
   unfolding uses
-  used-ill h e = writes-none deck out w run running r bad_byte e _
-      (λ d program s ready k. subst (Moves d deck program out w (stops_by bad_byte 0 run)) (sym (chosen _ _ h)) (refused-so d deck program out w run s bad_byte 0 z (omega arith) (omega arith) k))
+  used-ill h e = writes-none deck out w run running r (Refused BadByte 0) e _
+      (λ d program s ready k. subst (Moves d deck program out w (stops_by (Refused BadByte 0) run)) (sym (chosen _ _ h)) (refused-so d deck program out w run s BadByte 0 z k))
 
   module _ (good : is_ill_written line ≡ false) where
-    pub used-word : is_language_word (statement_fields line).operation ≡ true → r ≡ stops_by language_word 0 run → Used deck out w line run running out w r
+    pub used-word : is_language_word (statement_fields line).operation ≡ true → r ≡ stops_by (Refused LanguageWord 0) run → Used deck out w line run running out w r
     unfolding uses
-    used-word h e = writes-none deck out w run running r language_word e _
-        (λ d program s ready k. subst (Moves d deck program out w (stops_by language_word 0 run)) (sym (passed_over _ _ good ∙ chosen _ _ h)) (refused-so d deck program out w run s language_word 0 z (omega arith) (omega arith) k))
+    used-word h e = writes-none deck out w run running r (Refused LanguageWord 0) e _
+        (λ d program s ready k. subst (Moves d deck program out w (stops_by (Refused LanguageWord 0) run)) (sym (passed_over _ _ good ∙ chosen _ _ h)) (refused-so d deck program out w run s LanguageWord 0 z k))
 
     -- a call
-    pub used-unready : r ≡ stops_by 254 0 run → Used deck out w line run running out w r
+    pub used-unready : r ≡ stops_by Unready run → Used deck out w line run running out w r
     unfolding stops_by
-    used-unready e = writes-none deck out w run running r 254 e _ (λ d program s ready k. unready refl)
+    used-unready e = writes-none deck out w run running r Unready e _ (λ d program s ready k. unready refl)
 
     pub used-copied : (out' w' : Bytes) → is_language_word (statement_fields line).operation ≡ false → ((d : Deck) → Ready d deck (index_in w) → is_title (machine_of_deck d) (statement_fields line).operation ≡ false)
         → Copied deck out w line run running out' w' r → Used deck out w line run running out' w' r

@@ -4,6 +4,8 @@ use Rattle.rules.specs.Choice.{choose}
 use Rattle.expand_levels.specs.declared.Running.{Running}
 use Rattle.expand_steps.specs.declared.Run.{Run}
 use Rattle.expand_steps.specs.declared.Stepped.{Stepped}
+use Rattle.expand_steps.specs.declared.Halt.{Halt}
+use Rattle.expand_steps.specs.declared.Halt.TheVariants.{GoesOn}
 
 -- one step more
 unfoldable pub ticked : Run → Run
@@ -25,7 +27,7 @@ unfoldable pub put_to : ℕ → Running → Run → Run
 put_to pos q r = record { at = r.at; line = r.line; steps = r.steps; pos = pos; lines = r.lines + 1; calls = r.calls; running = q }
 
 unfoldable pub goes_on : Run → Stepped
-goes_on r = record { run = r; halt = 0; at = 0 }
+goes_on r = record { run = r; halt = GoesOn }
 
-unfoldable pub stops_by : ℕ → ℕ → Run → Stepped
-stops_by e at r = record { run = r; halt = e; at = at }
+unfoldable pub stops_by : Halt → Run → Stepped
+stops_by h r = record { run = r; halt = h }

@@ -4,7 +4,7 @@
 ghost use Rattle.std.specs.Prelude.{◌≡◌, ℕ, ◌≤◌, ◌<◌, ◌^◌, length};
 ghost use Rattle.rules.specs.Decide.{Act, next, leave, jump, renew, refuse, use'};
 ghost use Rattle.expand_levels.specs.Stack.{Sized, top_of};
-ghost use Rattle.expand_steps.specs.Moving.{Arm};
+ghost use Rattle.expand_steps.specs.Moving.{Arm, InMacro, OnLine};
 ghost use Rattle.text.specs.Bytes.{Bytes};
 ghost use Rattle.expand_steps.specs.Writing.{Ready, Copied, Used};
 ghost use Rattle.rules.specs.Machine.{is_title};
@@ -13,11 +13,17 @@ ghost use Rattle.work_frames.specs.Frames.{index_in};
 ghost use Rattle.expand_steps.specs.Moving.{Sound};
 ghost use Rattle.expand_steps.specs.Steps.{ActsBy, DoesLine, Bodily, Steps};
 ghost use Rattle.deck.specs.Slots.{Slot};
+ghost use Rattle.refusals.specs.Numbers.{number_of};
 ghost use Rattle.rules.specs.Evaluate.{Cell};
 ghost use Rattle.rules.specs.Statement.{map_line};
 ghost use Rattle.rules.specs.Decide.{decide};
-ghost use Rattle.deck_reading.specs.Reading.{run_at, line_at};
+ghost use Rattle.deck_reading.specs.Reading.{run_at, line_in};
 ghost use Rattle.expand_steps.specs.Runs.{ticked, past_of, opened_at, with_running, put_to, goes_on, stops_by};
+
+use deck_reading::Fields;
+use expand_levels::{CallNumber, Running};
+use kinds::Does;
+use refusals::Fault;
 
 // The place in the program, the open line's number, the steps, the bytes and lines put out, the calls numbered, the levels.
 #[derive(Clone, Copy)]
@@ -27,54 +33,66 @@ pub struct Run {
     pub steps: usize,
     pub pos: usize,
     pub lines: usize,
-    pub calls: expand_levels::CallNumber,
-    pub running: expand_levels::Running,
+    pub calls: CallNumber,
+    pub running: Running,
 }
 
-// What a step leaves: `halt` is 0 if it goes on, 255 if all is done, else a refusal's number; `at` is where in the field it arose.
+// Whether a run goes on behind a step. `Unready`: a line of a kind that no arm does yet; a refusal says where in the field it arose.
+#[derive(Clone, Copy)]
+pub enum Halt {
+    GoesOn,
+    Done,
+    Unready,
+    Refused { fault: Fault, at: usize },
+    StepsSpent,
+}
+
+// What a step leaves.
 #[derive(Clone, Copy)]
 pub struct Stepped {
     pub run: Run,
-    pub halt: u8,
-    pub at: usize,
+    pub halt: Halt,
 }
 
 // One step more.
+#[tactic(auto, unfolding(crate::specs::Runs::ticked))]
 pub fn tick(mut run: Run) -> Run
     requires { run.steps < 2 ^ 63 }
     ensures { result ≡ ticked run }
 {
-    let steps = run.steps;
-    run.steps = steps + 1;
+    run.steps += 1;
     run
 }
 
 // The levels go on as these.
-fn go_on(mut run: Run, running: expand_levels::Running) -> Stepped
+#[tactic(auto, unfolding(crate::specs::Runs::goes_on, crate::specs::Runs::with_running))]
+fn go_on(run: Run, running: Running) -> Stepped
     ensures { result ≡ goes_on (with_running running run) }
 {
-    run.running = running;
     Stepped {
-        run,
-        halt: 0,
-        at: 0,
+        run: Run { running, ..run },
+        halt: Halt::GoesOn,
     }
 }
 
-// A refusal: nothing changes.
-pub fn stop(run: Run, number: u8, at: usize) -> Stepped
-    ensures { result ≡ stops_by number at run }
+// The run ends here: nothing changes.
+#[tactic(auto, unfolding(crate::specs::Runs::stops_by))]
+pub fn stop(run: Run, halt: Halt) -> Stepped
+    ensures { result ≡ stops_by halt run }
 {
-    Stepped {
-        run,
-        halt: number,
-        at,
-    }
+    Stepped { run, halt }
+}
+
+// A refusal of the line itself: nothing changes.
+fn refuse(run: Run, fault: Fault) -> Stepped
+    ensures { result ≡ stops_by (Halt.Refused fault 0) run }
+{
+    stop(run, Halt::Refused { fault, at: 0 })
 }
 
 // The next line: remarks, declarations, ANOP.
 pub fn passes(run: Run) -> Stepped
-    requires { (0 < run.running.depth) × Sized run.running × ((top_of run.running).line < 65535) }
+    requires { OnLine run }
     ensures { Arm run next result }
 {
     let running = run.running;
@@ -85,7 +103,7 @@ pub fn passes(run: Run) -> Stepped
 
 // MEND and MEXIT.
 pub fn leaves(run: Run) -> Stepped
-    requires { (0 < run.running.depth) × Sized run.running }
+    requires { InMacro run }
     ensures { Arm run leave result }
 {
     let running = run.running;
@@ -95,13 +113,13 @@ pub fn leaves(run: Run) -> Stepped
 
 // AGO, and AIF that is taken.
 pub fn branches(run: Run, to: u16) -> Stepped
-    requires { (0 < run.running.depth) × Sized run.running }
+    requires { InMacro run }
     ensures { Arm run (jump to) result }
 {
     let running = run.running;
     let level = running.top();
     if level.is_spent() {
-        return stop(run, 9, 0);
+        return refuse(run, Fault::CounterSpent);
     }
     let next = running.with_top(level.branch(to));
     go_on(run, next)
@@ -109,7 +127,7 @@ pub fn branches(run: Run, to: u16) -> Stepped
 
 // ACTR with a value that may be.
 pub fn renews(run: Run, counter: u16) -> Stepped
-    requires { (0 < run.running.depth) × Sized run.running × ((top_of run.running).line < 65535) }
+    requires { OnLine run }
     ensures { Arm run (renew counter) result }
 {
     let running = run.running;
@@ -119,48 +137,34 @@ pub fn renews(run: Run, counter: u16) -> Stepped
 }
 
 // A line that is refused by evaluation.
-pub fn refuses(run: Run, number: u8, at: usize) -> Stepped
-    requires { (0 < run.running.depth) × Sized run.running × (1 ≤ number) × (number ≤ 16) }
-    ensures { (left : ℕ) → Arm run (refuse number left) result }
+pub fn refuses(run: Run, fault: Fault, at: usize) -> Stepped
+    requires { InMacro run }
+    ensures { (left : ℕ) → Arm run (refuse (number_of fault) left) result }
 {
-    stop(run, number, at)
+    stop(run, Halt::Refused { fault, at })
 }
 
 // A line is put out up to `pos`, and the levels go on as these.
-fn put_to(mut run: Run, pos: usize, running: expand_levels::Running) -> Stepped
+#[tactic(auto, unfolding(crate::specs::Runs::put_to, crate::specs::Runs::with_running))]
+fn put_to(run: Run, pos: usize, running: Running) -> Stepped
     requires { run.lines < 2 ^ 63 }
     ensures { result ≡ goes_on (put_to pos running run) }
 {
-    let lines = run.lines;
-    run.pos = pos;
-    run.lines = lines + 1;
-    run.running = running;
-    Stepped {
-        run,
-        halt: 0,
-        at: 0,
-    }
+    let lines = run.lines + 1;
+    go_on(Run { pos, lines, ..run }, running)
 }
 
 // A line that is copied, behind which the levels go on as `running`.
-pub fn copies(
-    out: &mut [u8],
-    work: &mut [u8],
-    line: &[u8],
-    run: Run,
-    running: expand_levels::Running,
-) -> Stepped
+pub fn copies(out: &mut [u8], work: &mut [u8], line: &[u8], run: Run, running: Running) -> Stepped
     requires { (run.pos ≤ length out.old) × (32768 ≤ length work.old) × (length line.now ≤ 71) × (run.lines < 2 ^ 63) × Sized run.running × Sized running }
     ensures { (deck : Bytes) → Copied deck out.old work.old line.now run running out.new work.new result }
 {
-    let pos = run.pos;
-    let put = expand_output::put_out(out, pos, line);
-    match put {
-        expand_output::Put::To(end) => {
+    match expand_output::put_out(out, run.pos, line) {
+        Some(end) => {
             expand_output::note_section(work, line);
             put_to(run, end, running)
         }
-        expand_output::Put::NoRoom => stop(run, 14, 0),
+        None => refuse(run, Fault::NoRoom),
     }
 }
 
@@ -172,59 +176,52 @@ fn is_title(deck: &[u8], work: &[u8], operation: &[u8]) -> bool
     expand_titles::title_place(table, operation) < table.len() / 8
 }
 
-// A line that is used as it stands, behind which the levels go on as `running`: refused, a call (254: none is done yet), or copied.
+// A line that is used as it stands, behind which the levels go on as `running`: refused, a call (none is done yet), or copied.
 pub fn uses(
     deck: &[u8],
     out: &mut [u8],
     work: &mut [u8],
     line: &[u8],
     run: Run,
-    running: expand_levels::Running,
+    running: Running,
 ) -> Stepped
     requires { (run.pos ≤ length out.old) × (32768 ≤ length work.old) × (run.lines < 2 ^ 63) × Sized run.running × Sized running }
     ensures { Used deck.now out.old work.old line.now run running out.new work.new result }
 {
     if written::is_ill_written(line) {
-        return stop(run, 1, 0);
+        return refuse(run, Fault::BadByte);
     }
     let operation = statements::operation_of(line);
-    if words::word(operation) < 16 {
-        return stop(run, 15, 0);
+    if words::word(operation).is_some() {
+        return refuse(run, Fault::LanguageWord);
     }
     if is_title(deck, work, operation) {
-        return stop(run, 254, 0);
+        return stop(run, Halt::Unready);
     }
     copies(out, work, line, run, running)
 }
 
-// What the line at a place of the deck does. 254: a line of a kind that no arm does yet.
-fn does(deck: &[u8], at: usize, run: Run) -> Stepped
-    requires { (0 < run.running.depth) × Sized run.running × ((top_of run.running).line < 65535) }
-    ensures { (f : Slot → Cell) → Arm run (decide (map_line f (λ t. t) (line_at deck.now at))) result }
+// What a line of the deck that writes nothing does: remarks and declarations, MEND, MEXIT, AGO.
+fn does(deck: &[u8], line: Fields, run: Run) -> Stepped
+    requires { OnLine run }
+    ensures { (f : Slot → Cell) → Arm run (decide (map_line f (λ t. t) (line_in deck.now line))) result }
 {
-    let kind = lent::byte(deck, at);
-    if kind == 0 {
-        return passes(run);
+    match line.does {
+        Does::Passes => passes(run),
+        Does::Ends | Does::Exits => leaves(run),
+        Does::Branches => branches(run, deck_reading::two_at(deck, line.first) as u16),
+        Does::Text | Does::Models | Does::BranchesIf | Does::Counts | Does::Sets(_) => {
+            stop(run, Halt::Unready)
+        }
     }
-    if kind == 1 {
-        return leaves(run);
-    }
-    if kind == 2 {
-        return leaves(run);
-    }
-    if kind == 6 {
-        let to = deck_reading::two_at(deck, at + 1) as u16;
-        return branches(run, to);
-    }
-    stop(run, 254, 0)
 }
 
 // A text line of a body, whose bytes stand at a place of the deck.
 fn uses_text(deck: &[u8], at: usize, out: &mut [u8], work: &mut [u8], run: Run) -> Stepped
-    requires { (run.pos ≤ length out.old) × (32768 ≤ length work.old) × (run.lines < 2 ^ 63) × (0 < run.running.depth) × Sized run.running × ((top_of run.running).line < 65535) × (at < 2 ^ 63) }
+    requires { (run.pos ≤ length out.old) × (32768 ≤ length work.old) × (run.lines < 2 ^ 63) × OnLine run }
     ensures { ActsBy deck.now out.old work.old run out.new work.new result (λ d s. use' (run_at deck.now at)) }
 {
-    let line = spans::part(deck, at + 2, deck_reading::two_at(deck, at));
+    let line = deck_reading::run_at(deck, at);
     let running = run.running;
     let level = running.top();
     let next = running.with_top(level.advance());
@@ -233,13 +230,14 @@ fn uses_text(deck: &[u8], at: usize, out: &mut [u8], work: &mut [u8], run: Run) 
 
 // The line at a place of the deck.
 fn line_step(deck: &[u8], at: usize, out: &mut [u8], work: &mut [u8], run: Run) -> Stepped
-    requires { (run.pos ≤ length out.old) × (32768 ≤ length work.old) × (run.lines < 2 ^ 63) × (0 < run.running.depth) × Sized run.running × ((top_of run.running).line < 65535) × (at < 2 ^ 62) }
+    requires { (run.pos ≤ length out.old) × (32768 ≤ length work.old) × (run.lines < 2 ^ 63) × OnLine run }
     ensures { DoesLine deck.now at out.old work.old run out.new work.new result }
 {
-    if lent::byte(deck, at) == 3 {
-        return uses_text(deck, at + 1, out, work, run);
+    let line = deck_reading::line_fields(deck, at);
+    match line.does {
+        Does::Text => uses_text(deck, line.first, out, work, run),
+        _ => does(deck, line, run),
     }
-    does(deck, at, run)
 }
 
 // The line that the innermost level has come to.
@@ -247,38 +245,33 @@ fn body_step(deck: &[u8], out: &mut [u8], work: &mut [u8], run: Run) -> Stepped
     requires { (run.pos ≤ length out.old) × (32768 ≤ length work.old) × (run.lines < 2 ^ 63) × (0 < run.running.depth) × Sized run.running × ((top_of run.running).body < 32) }
     ensures { Bodily deck.now out.old work.old run out.new work.new result }
 {
-    let running = run.running;
-    let level = running.top();
-    let body = level.body as usize;
-    let line = level.line as usize;
-    let found = work_frames::line_place(work, body, line);
-    match found {
-        work_frames::Found::At(at) => line_step(deck, at, out, work, run),
-        work_frames::Found::Behind => leaves(run),
+    let level = run.running.top();
+    match work_frames::line_place(work, level.body as usize, level.line as usize) {
+        Some(at) => line_step(deck, at, out, work, run),
+        None => leaves(run),
     }
 }
 
 // Behind the newline at `end`, or there if the file ends.
+#[tactic(auto, unfolding(crate::specs::Runs::past_of, rules::specs::Choice::choose))]
 fn past(end: usize, size: usize) -> usize
     ensures { result ≡ past_of end size }
 {
-    if end < size {
-        return end + 1;
-    }
-    end
+    if end < size { end + 1 } else { end }
 }
 
 // An open line more, and the program read to a place.
-fn open_at(mut run: Run, at: usize) -> Run
+#[tactic(auto, unfolding(crate::specs::Runs::opened_at))]
+fn open_at(run: Run, at: usize) -> Run
     requires { (run.line < 2 ^ 63) × (run.steps < 2 ^ 63) }
     ensures { result ≡ opened_at at run }
 {
-    let line = run.line;
-    let steps = run.steps;
-    run.at = at;
-    run.line = line + 1;
-    run.steps = steps + 1;
-    run
+    Run {
+        at,
+        line: run.line + 1,
+        steps: run.steps + 1,
+        ..run
+    }
 }
 
 // An open line.
@@ -299,12 +292,9 @@ pub fn step(deck: &[u8], program: &[u8], out: &mut [u8], work: &mut [u8], run: R
     requires { Sound program.now out.old run × (32768 ≤ length work.old) × (run.steps < 2 ^ 62) }
     ensures { Steps deck.now program.now out.old work.old run out.new work.new result }
 {
-    let running = run.running;
-    let depth = running.depth;
-    if depth == 0 {
-        let at = run.at;
-        if program.len() <= at {
-            return stop(run, 255, 0);
+    if run.running.depth == 0 {
+        if program.len() <= run.at {
+            return stop(run, Halt::Done);
         }
         return opens(deck, program, out, work, run);
     }

@@ -5,13 +5,15 @@ use mathlib.Core.Path.{◌≡◌, ap, sym, ◌∙◌}
 use mathlib.Core.Bool.{Bool, true, false}
 use mathlib.Core.List.{List, ◌++◌}
 use lib.Dec.{eqb}
-use lib.ListN.{length, get_or, take, drop, length-append}
+use lib.ListN.{length, take, drop, length-append}
 use lib.Seq.{take_at}
 use Rattle.text.specs.Bytes.{Bytes}
-use Rattle.text.specs.Words.{word_number}
 use Rattle.rules.specs.Choice.{choose}
 use Rattle.rules.specs.Fields.{Fields, fields_of, is_empty, statement_fields}
-use Rattle.rules.specs.Statement.{statements, model, statement_of}
+use Rattle.rules.specs.Statement.{statement_of}
+use Rattle.std.specs.Prelude.{Option}
+use Rattle.kinds.specs.declared.Word.{Word}
+use Rattle.kinds.specs.Kinds.{statement_by}
 use Rattle.rules.specs.Library.{operation_of}
 use Rattle.rules.proofs.Choices.{passed_over}
 use Rattle.rules.proofs.ReadLines.{fields-held}
@@ -72,8 +74,8 @@ module _ (l : Bytes) (s : Statement l) where
         )
 
   -- the codes that were written are the line's
-  module _ (t : Tables) (name operation operand out new : Bytes) (word : ℕ) (codes : Codes)
-      (n : name ≡ (fields_of l).name) (o : operation ≡ operation_of l) (a : operand ≡ (fields_of l).operand) (w : word ≡ word_number operation)
+  module _ (t : Tables) (name operation operand out new : Bytes) (word : Option Word) (codes : Codes)
+      (n : name ≡ (fields_of l).name) (o : operation ≡ operation_of l) (a : operand ≡ (fields_of l).operand) (w : statement_by word ≡ statement_of operation)
       (c : codes ≡ ends_of (field_code false t.own t.global t.shared name) (field_code false t.own t.global t.shared operation) (field_code true t.own t.global t.shared operand))
       (wrote : new ≡ splice out 0 (field_code false t.own t.global t.shared name ++ (field_code false t.own t.global t.shared operation ++ field_code true t.own t.global t.shared operand)))
       (room : 71 ≤ length out) where
@@ -98,7 +100,7 @@ module _ (l : Bytes) (s : Statement l) where
     unfolding name_code operation_code operand_code
     coded-here = record {
       in-set = s.in-set;
-      word-is = w ∙ ap word_number p;
+      word-is = w ∙ ap statement_of p;
       name-is = n;
       operand-is = a;
       codes-are = c ∙ (λ i. ends_of (field_code false t.own t.global t.shared (n i)) (field_code false t.own t.global t.shared (p i)) (field_code true t.own t.global t.shared (a i)));
@@ -118,15 +120,14 @@ module _ (l : Bytes) (s : Statement l) where
   fields-there name operation operand k n o a h = omega (arith, ap length n, ap length (o ∙ operation-there), ap length a, fields_fit, h)
 
   -- the word and the emptiness of the operation, as code has them
-  misplaced-here : (operation : Bytes) (word : ℕ) (ended : Bool) → operation ≡ operation_of l → word ≡ word_number operation
-      → misplaced (get_or statements word model) (eqb (length operation) 0) ended ≡ misplaced (statement_of (fields_of l).operation) (is_empty (fields_of l).operation) ended
-  unfolding statement_of
+  misplaced-here : (operation : Bytes) (word : Option Word) (ended : Bool) → operation ≡ operation_of l → statement_by word ≡ statement_of operation
+      → misplaced (statement_by word) (eqb (length operation) 0) ended ≡ misplaced (statement_of (fields_of l).operation) (is_empty (fields_of l).operation) ended
   misplaced-here operation word ended o w =
       let p = o ∙ operation-there in
-      λ i. misplaced (get_or statements ((w ∙ ap word_number p) i) model) ((empty-is operation ∙ ap is_empty p) i) ended
+      λ i. misplaced ((w ∙ ap statement_of p) i) ((empty-is operation ∙ ap is_empty p) i) ended
 
-  module _ (t : Tables) (before from : List Bytes) (ended : Bool) (locals : ℕ) (operation : Bytes) (word : ℕ) (r : Bool)
-      (o : operation ≡ operation_of l) (w : word ≡ word_number operation) (m : r ≡ misplaced (get_or statements word model) (eqb (length operation) 0) ended) where
+  module _ (t : Tables) (before from : List Bytes) (ended : Bool) (locals : ℕ) (operation : Bytes) (word : Option Word) (r : Bool)
+      (o : operation ≡ operation_of l) (w : statement_by word ≡ statement_of operation) (m : r ≡ misplaced (statement_by word) (eqb (length operation) 0) ended) where
     pub is-two : r ≡ true → 2 ≡ statement_fault t before from ended locals l
     unfolding statement_fault first_of choose
     is-two h = λ i. choose (sym (sym (m ∙ misplaced-here operation word ended o w) ∙ h) i) 2

@@ -5,19 +5,23 @@ use mathlib.Core.Path.{◌≡◌, ap, sym, ◌∙◌}
 use mathlib.Core.Bool.{Bool, true, false, ◌&&◌, ◌||◌, not}
 use mathlib.Core.List.{List}
 use lib.Dec.{eqb}
-use lib.ListN.{get_or, take, drop}
+use lib.ListN.{take, drop}
 use Rattle.text.specs.Bytes.{Bytes}
 use Rattle.rules.specs.Choice.{choose}
 use Rattle.rules.specs.Limits.{nest_limit}
 use Rattle.rules.specs.Lexemes.{is_sequence}
 use Rattle.rules.specs.Fields.{Fields, fields_of}
-use Rattle.rules.specs.Statement.{Statement, macro, mend, mexit, local, global, set, aif, ago, anop, actr, model, statement_of, statements, says}
+use Rattle.rules.specs.Statement.{Statement, macro, mend, mexit, local, global, set, aif, ago, anop, actr, model, statement_of, says}
+use Rattle.std.specs.Prelude.{Option}
+use Rattle.kinds.specs.declared.Word.{Word}
+use Rattle.kinds.specs.declared.Does.{Does}
+use Rattle.kinds.specs.declared.Does.TheVariants.{Passes, Ends, Exits, Text, Counts}
+use Rattle.kinds.specs.Kinds.{statement_by, does_for}
 use Rattle.rules.specs.Faults.{is_long_sequence, is_used_twice}
 use Rattle.rules.proofs.Choices.{either}
 use Rattle.rules.proofs.ReadLines.{fields-held}
 use Rattle.coding.specs.Coded.{field_code}
 use Rattle.names.specs.Names.{slot_byte}
-use Rattle.forms.specs.Numbers.{does_number}
 use Rattle.targets.proofs.Coded.{start-coded, sequence-coded, slot-byte-high, slot-byte-ends, slot-byte-other}
 use Rattle.symbols.specs.Held.{unknown_in}
 use Rattle.shapes.specs.declared.Codes.{Codes}
@@ -31,7 +35,7 @@ use Rattle.faults.specs.Coded.{any_of, Coded, Ordered, Inside}
 -- ---- a shape stands inside
 
 module _ (e : Codes) (n : ℕ) (o : Ordered e n) where
-  none_inside : (does : ℕ) → Inside (keeps_none does e) n
+  none_inside : (does : Does) → Inside (keeps_none does e) n
   none_inside does = record {
     name-in = omega arith;
     operation-in = omega arith;
@@ -41,7 +45,7 @@ module _ (e : Codes) (n : ℕ) (o : Ordered e n) where
     end-in = omega (arith, o.second, o.third);
   }
 
-  operand-inside : (does name : ℕ) → name ≤ n → Inside (keeps_operand does name e) n
+  operand-inside : (does : Does) (name : ℕ) → name ≤ n → Inside (keeps_operand does name e) n
   operand-inside does name h = record {
     name-in = h;
     operation-in = omega arith;
@@ -86,32 +90,31 @@ module _ (e : Codes) (n : ℕ) (o : Ordered e n) where
 
   pub shape-inside : (st : Statement) (label : Bool) (s : Bytes) → Inside (shape_of st label e s) n
   unfolding shape_of
-  shape-inside macro label s = none_inside 0
-  shape-inside mend label s = none_inside 1
-  shape-inside mexit label s = none_inside 2
-  shape-inside (local k) label s = none_inside 0
-  shape-inside (global k) label s = none_inside 0
+  shape-inside macro label s = none_inside Passes
+  shape-inside mend label s = none_inside Ends
+  shape-inside mexit label s = none_inside Exits
+  shape-inside (local k) label s = none_inside Passes
+  shape-inside (global k) label s = none_inside Passes
   shape-inside (set k) label s = operand-inside _ e.name (omega (arith, o.first, o.second, o.third))
   shape-inside aif label s = if-inside _
   shape-inside ago label s = branch-inside
-  shape-inside anop label s = none_inside 0
-  shape-inside actr label s = operand-inside 7 0 (omega arith)
-  shape-inside model label s = either (λ k. Inside k n) (is_plain_code s && not label) (λ q. none_inside 3) (λ q. model-inside label)
+  shape-inside anop label s = none_inside Passes
+  shape-inside actr label s = operand-inside Counts 0 (omega arith)
+  shape-inside model label s = either (λ k. Inside k n) (is_plain_code s && not label) (λ q. none_inside Text) (λ q. model-inside label)
 
 -- ---- what a shape says of its line
 
 -- a line that has this word, name, operand, codes and shape
-module _ (t : Tables) (l : Bytes) (word : ℕ) (name operand : Bytes) (codes : Codes) (code : Bytes) (c : Coded t l word name operand codes code)
-    (k : Shape) (shaped : k ≡ shape_of (get_or statements word model) (is_sequence name) codes code) where
+module _ (t : Tables) (l : Bytes) (word : Option Word) (name operand : Bytes) (codes : Codes) (code : Bytes) (c : Coded t l word name operand codes code)
+    (k : Shape) (shaped : k ≡ shape_of (statement_by word) (is_sequence name) codes code) where
   abbrev f : Fields
   f = fields_of l
 
   abbrev st : Statement
   st = statement_of f.operation
 
-  statement-is : get_or statements word model ≡ st
-  unfolding statement_of
-  statement-is = ap (λ (w : ℕ). get_or statements w model) c.word-is
+  statement-is : statement_by word ≡ st
+  statement-is = c.word-is
 
   shape_is : k ≡ shape_in t f
   unfolding shape_in
@@ -128,7 +131,7 @@ module _ (t : Tables) (l : Bytes) (word : ℕ) (name operand : Bytes) (codes : C
       (λ x. start-coded g (slot-byte-ends t.own t.global t.shared) (slot-byte-other t.own t.global t.shared) x)
       (λ x. sequence-coded g (slot-byte-ends t.own t.global t.shared) (slot-byte-other t.own t.global t.shared) x) st
 
-  pub does-is : k.does ≡ does_number (does_on l)
+  pub does-is : k.does ≡ does_for (does_on l)
   unfolding does_on
   does-is = ap (λ (s : Shape). s.does) shape_is ∙ line-spelt.does
 
@@ -149,7 +152,7 @@ module _ (t : Tables) (l : Bytes) (word : ℕ) (name operand : Bytes) (codes : C
   module _ (before from : List Bytes) where
     abbrev pub tested : Bool
     tested = any_of (is_long_sequence name) (unknown_in (take codes.name code)) (is_used_twice before name)
-        (bad_symbols t before from operand (part code codes.name codes.operation) (part code codes.operation codes.operand) (part code k.rest k.end) (get_or statements word model))
+        (bad_symbols t before from operand (part code codes.name codes.operation) (part code codes.operation codes.operand) (part code k.rest k.end) (statement_by word))
 
     pub bad-is : tested ≡ has_bad_name_in t before from f
     unfolding has_bad_name_in any_of part
@@ -158,7 +161,7 @@ module _ (t : Tables) (l : Bytes) (word : ℕ) (name operand : Bytes) (codes : C
         || bad_symbols t before from (c.operand-is i) (codes-cut.1.0 i) (codes-cut.1.1 i) (target_is i) (statement-is i)))
 
   abbrev pub around : Bool
-  around = good_fields name operand (take (k.end - k.rest) (drop k.rest code)) (get_or statements word model)
+  around = good_fields name operand (take (k.end - k.rest) (drop k.rest code)) (statement_by word)
 
   abbrev pub formed : ℕ → Bool
   formed nest = formed_code nest t.kinds code k (does_on l)
@@ -167,7 +170,7 @@ module _ (t : Tables) (l : Bytes) (word : ℕ) (name operand : Bytes) (codes : C
   unfolding is_ill_formed_in
   ill-is = λ i. not (good_fields (c.name-is i) (c.operand-is i) (target_is i) (statement-is i) && formed_code (nesting_of (shape_is i)) t.kinds (c.code_is i) (shape_is i) (does_on l))
 
-  pub past_is : (locals : ℕ) → (not (formed nest_limit) || too_many t locals operand (get_or statements word model)) ≡ is_past_in t locals l
+  pub past_is : (locals : ℕ) → (not (formed nest_limit) || too_many t locals operand (statement_by word)) ≡ is_past_in t locals l
   unfolding is_past_in
   past_is locals = λ i. not (formed_code nest_limit t.kinds (c.code_is i) (shape_is i) (does_on l)) || too_many t locals (c.operand-is i) (statement-is i)
 

@@ -1,13 +1,16 @@
 -- A statement with its word, its fields and their codes. Assumes nothing.
-use Rattle.std.specs.Prelude.{ℕ, ◌≤◌, ◌≡◌, Bool, true, false, ◌||◌, length}
+use Rattle.std.specs.Prelude.{ℕ, ◌≤◌, ◌≡◌, Bool, true, false, ◌||◌, length, Option}
 use Rattle.text.specs.Bytes.{Bytes}
 use Rattle.text.specs.Characters.{in_set}
-use Rattle.text.specs.Words.{word_number}
 use Rattle.rules.specs.Choice.{every}
 use Rattle.rules.specs.Fields.{is_remark, fields_of}
+use Rattle.rules.specs.Statement.{statement_of}
+use Rattle.kinds.specs.declared.Word.{Word}
+use Rattle.kinds.specs.Kinds.{statement_by}
 use Rattle.shapes.specs.declared.Codes.{Codes}
 use Rattle.shapes.specs.declared.Shape.{Shape}
 use Rattle.shapes.specs.Shapes.{ends_of}
+use Rattle.faults.specs.declared.CodedStatement.{CodedStatement}
 use Rattle.checking.specs.Body.{Tables, name_code, operation_code, operand_code, code_of}
 
 -- one of four tests holds
@@ -21,13 +24,17 @@ pub record Statement (l : Bytes) : Type 0 where
   pub no-remark : is_remark l ≡ false
 
 -- the word, the name, the operand and the codes of this line
-pub record Coded (t : Tables) (l : Bytes) (word : ℕ) (name operand : Bytes) (codes : Codes) (code : Bytes) : Type 0 where
+pub record Coded (t : Tables) (l : Bytes) (word : Option Word) (name operand : Bytes) (codes : Codes) (code : Bytes) : Type 0 where
   pub in-set : every in_set l ≡ true
-  pub word-is : word ≡ word_number (fields_of l).operation
+  pub word-is : statement_by word ≡ statement_of (fields_of l).operation
   pub name-is : name ≡ (fields_of l).name
   pub operand-is : operand ≡ (fields_of l).operand
   pub codes-are : codes ≡ ends_of (name_code t (fields_of l)) (operation_code t (fields_of l)) (operand_code t (fields_of l))
   pub code_is : code ≡ code_of t (fields_of l)
+
+-- what code has of a statement is this line's
+abbrev pub CodedAs : Tables → Bytes → CodedStatement → Type 0
+CodedAs t l s = Coded t l s.word s.name.now s.operand.now s.codes s.code.now
 
 -- the ends of codes stand in order
 pub record Ordered (codes : Codes) (n : ℕ) : Type 0 where

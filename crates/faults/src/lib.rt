@@ -1,25 +1,30 @@
-// The lowest number that a line of a body has.
+// The refusal with the lowest number that a line of a body has.
 #![tactic(auto)]
 
-ghost use Rattle.std.specs.Prelude.{◌≡◌, Bool, true, false, ◌||◌, List, [], ◌∷◌, ◌+◌, ◌-◌, ◌≤◌, length, get_or, take};
+ghost use Rattle.std.specs.Prelude.{◌≡◌, Bool, true, false, ◌||◌, List, [], ◌∷◌, ◌+◌, ◌-◌, ◌≤◌, length, take};
 ghost use Rattle.text.specs.Bytes.{Bytes};
 ghost use Rattle.rules.specs.Fields.{lines_of, is_ill_written, fields_of};
-ghost use Rattle.rules.specs.Statement.{statements, model, Does};
+ghost use Rattle.rules.specs.Statement.{Does};
 ghost use Rattle.rules.specs.Faults.{Around, ends_declarations, is_out_of_place, is_long_sequence, is_used_twice, has_bad_name, is_ill_formed, is_past};
 ghost use Rattle.rules.specs.Library.{in_body, names_in};
 ghost use Rattle.rules.specs.Choice.{any};
+ghost use Rattle.kinds.specs.Kinds.{statement_by, does_for};
+ghost use Rattle.refusals.specs.Numbers.{number_by};
 ghost use Rattle.prototypes.specs.Lowest.{lowest};
-ghost use Rattle.forms.specs.Numbers.{does_number};
 ghost use Rattle.symbols.specs.Held.{Held, unknown_in};
 ghost use Rattle.shapes.specs.Shapes.{part, shape_of};
 ghost use Rattle.rules.specs.Lexemes.{is_sequence};
-ghost use Rattle.checking.specs.Body.{first_of, bad_symbols, formed_code, nesting_of, has_bad_name_in, is_ill_formed_in, is_past_in, statement_fault};
-ghost use Rattle.faults.specs.Coded.{any_of, Statement, Coded, Ordered, Inside};
+ghost use Rattle.checking.specs.Body.{tables_of, first_of, bad_symbols, formed_code, nesting_of, has_bad_name_in, is_ill_formed_in, is_past_in, statement_fault};
+ghost use Rattle.faults.specs.Coded.{any_of, Statement, CodedAs, Ordered, Inside};
+
+use checking::{Lines, Tables};
+use kinds::Word;
+use refusals::Fault;
 
 // Whether what a shape keeps is well formed, with at most `nest` pairs of parentheses open at once.
 fn keeps_good(shape: shapes::Shape, kinds: &[u8], code: &[u8], nest: usize) -> bool
     requires { Inside shape (length code.now) }
-    ensures { (d : Does Bytes) → shape.does ≡ does_number d → result ≡ formed_code nest kinds.now code.now shape d }
+    ensures { (d : Does Bytes) → shape.does ≡ does_for d → result ≡ formed_code nest kinds.now code.now shape d }
 {
     let name = shape.name;
     let operation = shape.operation;
@@ -36,32 +41,36 @@ fn keeps_good(shape: shapes::Shape, kinds: &[u8], code: &[u8], nest: usize) -> b
     )
 }
 
+// A statement by its word, its name and its operand, with where the codes of its fields end, and these codes.
+#[derive(Clone, Copy)]
+struct CodedStatement<'a> {
+    word: Option<Word>,
+    name: &'a [u8],
+    operand: &'a [u8],
+    codes: shapes::Codes,
+    code: &'a [u8],
+}
+
 // 3: whether a name in a statement is too long, not known, or used twice.
 fn has_bad_name(
-    word: usize,
-    name: &[u8],
-    operand: &[u8],
-    codes: shapes::Codes,
+    statement: CodedStatement,
     shape: shapes::Shape,
-    code: &[u8],
-    before: &[u8],
-    from: &[u8],
-    own: &[u8],
-    global: &[u8],
-    shared: &[u8],
-    kinds: &[u8],
+    lines: Lines,
+    tables: Tables,
 ) -> bool
-    requires { Ordered codes (length code.now) × Inside shape (length code.now) }
-    ensures { result ≡ any_of (is_long_sequence name.now) (unknown_in (take codes.name code.now)) (is_used_twice (lines_of before.now) name.now) (bad_symbols (record { own = own.entry.now; global = global.now; shared = shared.now; kinds = kinds.now }) (lines_of before.now) (lines_of from.now) operand.now (part code.now codes.name codes.operation) (part code.now codes.operation codes.operand) (part code.now shape.rest shape.end) (get_or statements word model)) }
+    requires { Ordered statement.codes (length statement.code.now) × Inside shape (length statement.code.now) }
+    ensures { result ≡ any_of (is_long_sequence statement.entry.name.now) (unknown_in (take statement.entry.codes.name statement.entry.code.now)) (is_used_twice (lines_of lines.entry.before.now) statement.entry.name.now) (bad_symbols (tables_of tables.entry) (lines_of lines.entry.before.now) (lines_of lines.entry.from.now) statement.entry.operand.now (part statement.entry.code.now statement.entry.codes.name statement.entry.codes.operation) (part statement.entry.code.now statement.entry.codes.operation statement.entry.codes.operand) (part statement.entry.code.now shape.rest shape.end) (statement_by statement.entry.word)) }
 {
-    if statements::is_long_sequence(name) {
+    let codes = statement.codes;
+    let code = statement.code;
+    if statements::is_long_sequence(statement.name) {
         return true;
     }
     let first = codes.name;
     if symbols::has_unknown(&code[0..first]) {
         return true;
     }
-    if labels::is_used_twice(before, name) {
+    if labels::is_used_twice(lines.before, statement.name) {
         return true;
     }
     let second = codes.operation;
@@ -69,17 +78,13 @@ fn has_bad_name(
     let rest = shape.rest;
     let end = shape.end;
     checking::has_bad_symbols(
-        word,
-        operand,
+        statement.word,
+        statement.operand,
         &code[first..second],
         &code[second..third],
         &code[rest..end],
-        before,
-        from,
-        own,
-        global,
-        shared,
-        kinds,
+        lines,
+        tables,
     )
 }
 
@@ -91,137 +96,112 @@ fn nesting(shape: shapes::Shape, size: usize) -> usize
     shape.name + ((shape.gap - shape.operation) + (shape.rest - shape.operand))
 }
 
-// The lowest number from 3 on of a statement with this word, name, operand and shape, whose fields' codes stand in `code`; 0 where it has none.
+// The refusal with the lowest number from 3 on of a statement of this shape, where it has one.
 fn shaped_fault(
-    word: usize,
-    name: &[u8],
-    operand: &[u8],
-    codes: shapes::Codes,
+    statement: CodedStatement,
     shape: shapes::Shape,
-    code: &[u8],
-    before: &[u8],
-    from: &[u8],
+    lines: Lines,
     locals: usize,
-    own: &[u8],
-    global: &[u8],
-    shared: &[u8],
-    kinds: &[u8],
-) -> u8
-    requires { Ordered codes (length code.now) × (Inside shape (length code.now) × ((locals ≤ 64) × ((length operand.now ≤ 71) × (length code.now ≤ 71)))) }
-    ensures { (l : Bytes) → Coded (record { own = own.entry.now; global = global.now; shared = shared.now; kinds = kinds.now }) l word name.now operand.now codes code.now → shape ≡ shape_of (get_or statements word model) (is_sequence name.now) codes code.now → result ≡ first_of false (has_bad_name_in (record { own = own.entry.now; global = global.now; shared = shared.now; kinds = kinds.now }) (lines_of before.now) (lines_of from.now) (fields_of l)) (is_ill_formed_in (record { own = own.entry.now; global = global.now; shared = shared.now; kinds = kinds.now }) l) (is_past_in (record { own = own.entry.now; global = global.now; shared = shared.now; kinds = kinds.now }) locals l) }
+    tables: Tables,
+) -> Option<Fault>
+    requires { Ordered statement.codes (length statement.code.now) × (Inside shape (length statement.code.now) × ((locals ≤ 64) × ((length statement.operand.now ≤ 71) × (length statement.code.now ≤ 71)))) }
+    ensures { (l : Bytes) → CodedAs (tables_of tables.entry) l statement.entry → shape ≡ shape_of (statement_by statement.entry.word) (is_sequence statement.entry.name.now) statement.entry.codes statement.entry.code.now → number_by result ≡ first_of false (has_bad_name_in (tables_of tables.entry) (lines_of lines.entry.before.now) (lines_of lines.entry.from.now) (fields_of l)) (is_ill_formed_in (tables_of tables.entry) l) (is_past_in (tables_of tables.entry) locals l) }
 {
-    if has_bad_name(
-        word, name, operand, codes, shape, code, before, from, own, global, shared, kinds,
-    ) {
-        return 3;
+    let code = statement.code;
+    if has_bad_name(statement, shape, lines, tables) {
+        return Some(Fault::BadName);
     }
     let rest = shape.rest;
     let end = shape.end;
-    if !checking::are_fields_good(word, name, operand, &code[rest..end]) {
-        return 4;
+    if !checking::are_fields_good(
+        statement.word,
+        statement.name,
+        statement.operand,
+        &code[rest..end],
+    ) {
+        return Some(Fault::IllFormed);
     }
-    if !keeps_good(shape, kinds, code, nesting(shape, code.len())) {
-        return 4;
+    if !keeps_good(shape, tables.kinds, code, nesting(shape, code.len())) {
+        return Some(Fault::IllFormed);
     }
-    if !keeps_good(shape, kinds, code, 8) {
-        return 5;
+    if !keeps_good(shape, tables.kinds, code, 8) {
+        return Some(Fault::OverLimit);
     }
-    if checking::declares_too_many(word, locals, operand, shared) {
-        return 5;
+    if checking::declares_too_many(
+        statement.word,
+        locals,
+        statement.operand,
+        tables.names.shared,
+    ) {
+        return Some(Fault::OverLimit);
     }
-    0
+    None
 }
 
-// The lowest number from 3 on of a statement with this word, name and operand, whose fields' codes are `code`; 0 where it has none.
+// The refusal with the lowest number from 3 on of a statement, where it has one.
 fn coded_fault(
-    word: usize,
-    name: &[u8],
-    operand: &[u8],
-    codes: shapes::Codes,
-    code: &[u8],
-    before: &[u8],
-    from: &[u8],
+    statement: CodedStatement,
+    lines: Lines,
     locals: usize,
-    own: &[u8],
-    global: &[u8],
-    shared: &[u8],
-    kinds: &[u8],
-) -> u8
-    requires { Ordered codes (length code.now) × ((locals ≤ 64) × ((length operand.now ≤ 71) × (length code.now ≤ 71))) }
-    ensures { (l : Bytes) → Coded (record { own = own.entry.now; global = global.now; shared = shared.now; kinds = kinds.now }) l word name.now operand.now codes code.now → result ≡ first_of false (has_bad_name_in (record { own = own.entry.now; global = global.now; shared = shared.now; kinds = kinds.now }) (lines_of before.now) (lines_of from.now) (fields_of l)) (is_ill_formed_in (record { own = own.entry.now; global = global.now; shared = shared.now; kinds = kinds.now }) l) (is_past_in (record { own = own.entry.now; global = global.now; shared = shared.now; kinds = kinds.now }) locals l) }
+    tables: Tables,
+) -> Option<Fault>
+    requires { Ordered statement.codes (length statement.code.now) × ((locals ≤ 64) × ((length statement.operand.now ≤ 71) × (length statement.code.now ≤ 71))) }
+    ensures { (l : Bytes) → CodedAs (tables_of tables.entry) l statement.entry → number_by result ≡ first_of false (has_bad_name_in (tables_of tables.entry) (lines_of lines.entry.before.now) (lines_of lines.entry.from.now) (fields_of l)) (is_ill_formed_in (tables_of tables.entry) l) (is_past_in (tables_of tables.entry) locals l) }
 {
-    let label = statements::is_sequence(name);
-    let shape = shapes::shape_of(word, label, codes, code);
-    shaped_fault(
-        word, name, operand, codes, shape, code, before, from, locals, own, global, shared, kinds,
-    )
+    let label = statements::is_sequence(statement.name);
+    let shape = shapes::shape_of(statement.word, label, statement.codes, statement.code);
+    shaped_fault(statement, shape, lines, locals, tables)
 }
 
-// The lowest number from 2 on of a statement in a body; 0 where it has none. `code` is a buffer for the codes of its fields.
+// The refusal with the lowest number from 2 on of a statement in a body, where it has one. `code` is a buffer for the codes of its fields.
 fn statement_fault(
     line: &[u8],
-    before: &[u8],
-    from: &[u8],
+    lines: Lines,
     ended: bool,
     locals: usize,
-    own: &[u8],
-    global: &[u8],
-    shared: &[u8],
-    kinds: &[u8],
+    tables: Tables,
     code: &mut [u8],
-) -> u8
+) -> Option<Fault>
     requires { Statement line.now × ((locals ≤ 64) × (71 ≤ length code.old)) }
-    ensures { result ≡ statement_fault (record { own = own.entry.now; global = global.now; shared = shared.now; kinds = kinds.now }) (lines_of before.now) (lines_of from.now) ended locals line.now }
+    ensures { number_by result ≡ statement_fault (tables_of tables.entry) (lines_of lines.entry.before.now) (lines_of lines.entry.from.now) ended locals line.now }
 {
     let name = written::name_field(line);
     let operation = statements::operation_of(line);
     let operand = written::operand_field(line);
     let word = words::word(operation);
     if checking::is_misplaced(word, operation.len() == 0, ended) {
-        return 2;
+        return Some(Fault::OutOfPlace);
     }
-    let codes = shapes::code_fields(name, operation, operand, own, global, shared, code);
+    let codes = shapes::code_fields(name, operation, operand, tables.names, code);
     let end = codes.operand;
-    coded_fault(
+    let statement = CodedStatement {
         word,
         name,
         operand,
         codes,
-        &code[0..end],
-        before,
-        from,
-        locals,
-        own,
-        global,
-        shared,
-        kinds,
-    )
+        code: &code[0..end],
+    };
+    coded_fault(statement, lines, locals, tables)
 }
 
-// The lowest number that a line of a body has; 0 where it has none. `before` are the lines of the body before it, `from` this line and all behind it, `ended` says
+// The refusal with the lowest number that a line of a body has, where it has one. `lines` are the body's before it, and this line with all behind it; `ended` says
 // that one before it is no declaration, `locals` how many locals the macro has so far; `code` is a buffer for the codes of its fields.
 pub fn body_fault(
     line: &[u8],
-    before: &[u8],
-    from: &[u8],
+    lines: Lines,
     ended: bool,
     locals: usize,
-    own: &[u8],
-    global: &[u8],
-    shared: &[u8],
-    kinds: &[u8],
+    tables: Tables,
     code: &mut [u8],
-) -> u8
+) -> Option<Fault>
     requires { (locals ≤ 64) × (71 ≤ length code.old) }
-    ensures { (a : Around) (p : Bytes) (ls : List Bytes) → Held (names_in p (lines_of before.now)) a.globals own.now global.now shared.now kinds.now → lines_of from.now ≡ line.now ∷ ls → ended ≡ any ends_declarations (lines_of before.now) → locals ≡ length (names_in p (lines_of before.now)).locals → result ≡ lowest (is_ill_written line.now) (is_out_of_place (in_body p (lines_of before.now)) line.now) (has_bad_name a line.now ls (in_body p (lines_of before.now))) (is_ill_formed line.now (in_body p (lines_of before.now))) (is_past a line.now (in_body p (lines_of before.now))) }
+    ensures { (a : Around) (p : Bytes) (ls : List Bytes) → Held (names_in p (lines_of lines.entry.before.now)) a.globals tables.entry.names.own.now tables.entry.names.global.now tables.entry.names.shared.now tables.entry.kinds.now → lines_of lines.entry.from.now ≡ line.now ∷ ls → ended ≡ any ends_declarations (lines_of lines.entry.before.now) → locals ≡ length (names_in p (lines_of lines.entry.before.now)).locals → number_by result ≡ lowest (is_ill_written line.now) (is_out_of_place (in_body p (lines_of lines.entry.before.now)) line.now) (has_bad_name a line.now ls (in_body p (lines_of lines.entry.before.now))) (is_ill_formed line.now (in_body p (lines_of lines.entry.before.now))) (is_past a line.now (in_body p (lines_of lines.entry.before.now))) }
 {
     if written::is_ill_written(line) {
-        return 1;
+        return Some(Fault::BadByte);
     }
     if statements::is_remark(line) {
-        return 0;
+        return None;
     }
-    statement_fault(
-        line, before, from, ended, locals, own, global, shared, kinds, code,
-    )
+    statement_fault(line, lines, ended, locals, tables, code)
 }

@@ -15,6 +15,16 @@ pub struct Seen {
     pub depth: usize,
 }
 
+impl Seen {
+    // At a field's start.
+    pub const START: Seen = Seen {
+        second: b' ',
+        first: b' ',
+        quoted: false,
+        depth: 0,
+    };
+}
+
 // Whether `c` is one of the letters before an attribute mark.
 fn precedes(c: u8) -> bool
     ensures { result ≡ precedes c }
@@ -108,15 +118,7 @@ pub fn run_end(line: &[u8], at: usize, spaces: bool) -> usize
     ensures value { result ≡ run_end spaces line.now at }
     ensures lower_bound { (at ≤ result) × (result ≤ at + (length line.now - at)) }
 {
-    let mut i = at;
-    while i < line.len() {
-        let c = line[i];
-        if !in_run(c, spaces) {
-            return i;
-        }
-        i += 1;
-    }
-    i
+    lent::run_end(line, at, |c| in_run(c, spaces))
 }
 
 // Where the operand that starts at `at` ends: a space outside quotes (and, if `holds`, outside parentheses), or the line's end.
@@ -124,23 +126,15 @@ pub fn operand_end(line: &[u8], at: usize, holds: bool) -> usize
     ensures value { result ≡ operand_end_at holds line.now at }
     ensures lower_bound { (at ≤ result) × (result ≤ at + (length line.now - at)) }
 {
-    let mut i = at;
-    let mut seen = Seen {
-        second: b' ',
-        first: b' ',
-        quoted: false,
-        depth: 0,
-    };
-    while i < line.len() {
+    let mut seen = Seen::START;
+    for i in at..line.len() {
         let c = line[i];
         if closes_field(holds, seen, c) {
             return i;
         }
-        i += 1;
-        let next = lent::byte(line, i);
-        seen = seen_after(seen, c, next);
+        seen = seen_after(seen, c, lent::byte(line, i + 1));
     }
-    i
+    at.max(line.len())
 }
 
 // Whether parentheses hold spaces in the operand of this operation.

@@ -1,6 +1,6 @@
 -- Tables of the library's globals with a name more, and with one name after another. Assumes nothing.
-use Prim.Native.Nat.{ℕ, suc, ◌+◌, ◌*◌, ◌-◌, ◌≤◌, ◌<◌}
-use native.Mathlib.Nat.{not-suc-le-zero, le_of_suc-le-suc, sub-zero}
+use Prim.Native.Nat.{ℕ, suc, ◌+◌, ◌*◌, ◌≤◌, ◌<◌}
+use native.Mathlib.Nat.{not-suc-le-zero, le_of_suc-le-suc}
 use native.Mathlib.Numerals.{add-one}
 use native.Mathlib.Omega.{arith}
 use mathlib.Core.Path.{◌≡◌, refl, ap, sym, ◌∙◌}
@@ -70,7 +70,7 @@ module _ (k : Set) (gs : Globals) (n : Bytes) where
   unfolding with_globals of_kind
   with-new e = passed_over gs (gs ++ ((n, k) ∷ [])) e
 
-kind-number : (k : Set) (c : ℕ) → c ≡ set_code k → c + 1 ≡ number_of (symbol k)
+pub kind-number : (k : Set) (c : ℕ) → c ≡ set_code k → c + 1 ≡ number_of (symbol k)
 unfolding set_code number_of
 kind-number set_a c e = omega (arith, e)
 kind-number set_b c e = omega (arith, e)
@@ -94,9 +94,9 @@ module _ (code : ℕ) (shared kinds : Bytes) (rows : ℕ) where
   unfolding with_globals of_kind
   adds-nothing e k gs _ a b c = stays gs _ (ap (λ (s : List Bytes). with_globals gs (of_kind k s)) e) a b c
 
-  module _ {ns : List Bytes} (n : Bytes) (e : ns ≡ n ∷ []) (place : ℕ) (p : place ≡ place_among (names_in (take (rows * 8 - 0) shared)) n) where
+  module _ {ns : List Bytes} (n : Bytes) (e : ns ≡ n ∷ []) (place : ℕ) (p : place ≡ place_among (names_in (take (rows * 8) shared)) n) where
     place_is : (gs : Globals) → names_in (take (rows * 8) shared) ≡ firsts gs → place ≡ place_among (firsts gs) n
-    place_is gs a = p ∙ (ap (λ (m : ℕ). place_among (names_in (take m shared)) n) (sub-zero (rows * 8)) ∙ ap (λ (ws : List Bytes). place_among ws n) a)
+    place_is gs a = p ∙ ap (λ (ws : List Bytes). place_among ws n) a
 
     pub adds-known : place < rows → Stays ns
     adds-known h k gs _ a b c =

@@ -1,8 +1,8 @@
 -- The scan for the `)` that pairs with the `(` at the start, by place. Assumes nothing.
-use Prim.Native.Nat.{ℕ, zero, suc, pred, ◌+◌, ◌-◌, ◌≤◌, ◌<◌}
+use Prim.Native.Nat.{ℕ, suc, ◌+◌, ◌≤◌, ◌<◌}
 use native.Mathlib.Omega.{arith}
 use mathlib.Core.Path.{◌≡◌, refl, sym, ap, ◌∙◌}
-use mathlib.Core.Bool.{Bool, true, false, not}
+use mathlib.Core.Bool.{Bool, true, false}
 use mathlib.Core.List.{List, [], ◌∷◌}
 use lib.Dec.{eqb}
 use lib.ListN.{length, get_or}
@@ -16,42 +16,6 @@ use Rattle.rules.proofs.Choices.{chosen, passed_over}
 use Rattle.grammar.specs.Tokens.{lex_of, toks_at}
 use Rattle.grammar.proofs.Places.{toks-end, toks-step}
 use Rattle.forms.specs.Pairs.{pairs_by, quoted_by, depth_by}
-
--- ---- one byte
-
-pub quoted-turns : (c : ℕ) (quoted : Bool) → c ≡ 39 → not quoted ≡ quoted_by c quoted
-unfolding quoted_by
-quoted-turns c quoted h = sym (chosen _ _ (eq-eqb c 39 h))
-
-pub quoted-stays : (c : ℕ) (quoted : Bool) → (c ≡ 39 → ⊥) → quoted ≡ quoted_by c quoted
-unfolding quoted_by
-quoted-stays c quoted h = sym (passed_over _ _ (ne_eqb c 39 h))
-
-pred-is : (n : ℕ) → pred n ≡ n - 1
-pred-is zero = omega arith
-pred-is (suc n) = omega arith
-
-module _ (c : ℕ) (quoted : Bool) (depth : ℕ) where
-  pub depth-quoted : quoted ≡ true → depth ≡ depth_by c quoted depth
-  unfolding depth_by
-  depth-quoted q = sym (chosen _ _ q)
-
-  module _ (q : quoted ≡ false) where
-    pub depth-opens : c ≡ 40 → depth + 1 ≡ depth_by c quoted depth
-    unfolding depth_by
-    depth-opens h = sym (passed_over _ _ q ∙ chosen _ _ (eq-eqb c 40 h) ∙ omega arith)
-
-    module _ (h : c ≡ 40 → ⊥) where
-      pub depth-closes : c ≡ 41 → depth - 1 ≡ depth_by c quoted depth
-      unfolding depth_by
-      depth-closes i = sym (passed_over _ _ q ∙ passed_over _ _ (ne_eqb c 40 h) ∙ chosen _ _ (eq-eqb c 41 i) ∙ pred-is depth)
-
-      pub depth-none : c ≡ 41 → depth ≡ 0 → 0 ≡ depth_by c quoted depth
-      depth-none i z = (let p : 0 ≡ depth - 1 = omega arith in p) ∙ depth-closes i
-
-      pub depth-stays : (c ≡ 41 → ⊥) → depth ≡ depth_by c quoted depth
-      unfolding depth_by
-      depth-stays i = sym (passed_over _ _ q ∙ passed_over _ _ (ne_eqb c 40 h) ∙ passed_over _ _ (ne_eqb c 41 i))
 
 -- ---- from a place on
 

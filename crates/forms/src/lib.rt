@@ -5,35 +5,23 @@ ghost use Rattle.std.specs.Prelude.{◌≡◌, List, ℕ, ◌+◌, ◌<◌, ◌�
 ghost use Rattle.text.specs.Bytes.{Bytes};
 ghost use Rattle.rules.specs.Choice.{passed};
 ghost use Rattle.rules.specs.Lexemes.{Lex, outside, enters};
-ghost use Rattle.rules.specs.Statement.{Set, Does, pairs_first, condition_end};
-ghost use Rattle.rules.specs.Grammar.{Kind, whole, arithmetic, condition, string_within, text_within};
+ghost use Rattle.rules.specs.Statement.{Does as Doing, pairs_first, condition_end};
+ghost use Rattle.rules.specs.Grammar.{Kind as Meant, whole, arithmetic, condition, string_within, text_within};
 ghost use Rattle.rules.specs.Form.{form, is_got, is_named_by, is_operand_of, is_formed_by};
-ghost use Rattle.deck.specs.Coders.{set_code};
+ghost use Rattle.kinds.specs.Kinds.{set_of, does_for};
 ghost use Rattle.grammar.specs.Tokens.{toks_at, tells};
-ghost use Rattle.forms.specs.Numbers.{does_number};
 ghost use Rattle.forms.specs.Pairs.{pairs_by, quoted_by, depth_by};
 
 use grammar::Formed;
-
-// Whether what was read is well formed.
-fn formed(read: Formed) -> bool
-    ensures { (from : ℕ → List (Lex Kind)) → result ≡ is_got (tells from read) }
-{
-    match read {
-        Formed::At(_) => true,
-        Formed::Broken(_) => false,
-        Formed::Deep(_) => false,
-    }
-}
+use kinds::{Does, Kind, Set};
 
 // Whether what was read is well formed, and nothing is left.
 fn whole(code: &[u8], read: Formed) -> bool
     ensures { (kinds : Bytes) → result ≡ is_got (whole (tells (toks_at kinds code.now) read)) }
 {
     match read {
-        Formed::At(at) => code.len() <= at,
-        Formed::Broken(_) => false,
-        Formed::Deep(_) => false,
+        Ok(end) => code.len() <= end,
+        Err(_) => false,
     }
 }
 
@@ -62,67 +50,55 @@ pub fn is_characters(kinds: &[u8], code: &[u8], nest: usize) -> bool
 pub fn is_text(kinds: &[u8], code: &[u8], nest: usize) -> bool
     ensures { result ≡ is_got (text_within form nest (toks_at kinds.now code.now 0)) }
 {
-    formed(grammar::text(kinds, code, 0, nest))
+    grammar::text(kinds, code, 0, nest).is_ok()
 }
 
-// Whether a field is exactly a SET symbol of this kind: 0 SETA, 1 SETB, 2 SETC.
-pub fn is_named_by(kinds: &[u8], code: &[u8], set: u8) -> bool
-    ensures { (k : Set) → set ≡ set_code k → result ≡ is_named_by k (toks_at kinds.now code.now 0) }
+// Whether a field is exactly a SET symbol of this kind.
+pub fn is_named_by(kinds: &[u8], code: &[u8], set: Set) -> bool
+    ensures { result ≡ is_named_by (set_of set) (toks_at kinds.now code.now 0) }
 {
-    if code.len() != 1 {
-        return false;
-    }
-    let kind = grammar::kind_at(kinds, code, 0);
-    if kind == 0 {
-        return false;
-    }
-    kind - 1 == set
+    (code.len() == 1) & (grammar::kind_at(kinds, code, 0) == Some(Kind::Symbol(set)))
 }
-
-// The kind of SETB.
-const SETB: u8 = 1;
 
 // Whether a field is what a SET line of this kind has as its operand.
-fn is_operand_of(kinds: &[u8], code: &[u8], set: u8, nest: usize) -> bool
-    ensures { (k : Set) → set ≡ set_code k → result ≡ is_operand_of nest k (toks_at kinds.now code.now 0) }
+#[tactic(auto, unfolding(rules::specs::Form::is_operand_of))]
+fn is_operand_of(kinds: &[u8], code: &[u8], set: Set, nest: usize) -> bool
+    ensures { result ≡ is_operand_of nest (set_of set) (toks_at kinds.now code.now 0) }
 {
-    if set == 0 {
-        return is_arithmetic(kinds, code, nest);
+    match set {
+        Set::A => is_arithmetic(kinds, code, nest),
+        Set::B => is_condition(kinds, code, nest),
+        Set::C => is_characters(kinds, code, nest),
     }
-    if set == SETB {
-        return is_condition(kinds, code, nest);
-    }
-    is_characters(kinds, code, nest)
 }
 
 // Whether a line that does this is well formed, with at most `nest` pairs of parentheses open at once.
 pub fn is_formed(
-    does: u8,
+    does: Does,
     kinds: &[u8],
     name: &[u8],
     operation: &[u8],
     operand: &[u8],
     nest: usize,
 ) -> bool
-    ensures { (d : Does Bytes) → does ≡ does_number d → result ≡ is_formed_by nest (record { does = d; name = toks_at kinds.now name.now 0; operation = toks_at kinds.now operation.now 0; operand = toks_at kinds.now operand.now 0 }) d }
+    ensures { (d : Doing Bytes) → does ≡ does_for d → result ≡ is_formed_by nest (record { does = d; name = toks_at kinds.now name.now 0; operation = toks_at kinds.now operation.now 0; operand = toks_at kinds.now operand.now 0 }) d }
 {
-    if does == 4 {
-        return is_text(kinds, name, nest)
-            & (is_text(kinds, operation, nest) & is_text(kinds, operand, nest));
+    match does {
+        Does::Models => {
+            is_text(kinds, name, nest)
+                & (is_text(kinds, operation, nest) & is_text(kinds, operand, nest))
+        }
+        Does::BranchesIf => is_condition(kinds, operand, nest),
+        Does::Counts => is_arithmetic(kinds, operand, nest),
+        Does::Sets(set) => {
+            is_named_by(kinds, name, set) & is_operand_of(kinds, operand, set, nest)
+        }
+        Does::Passes | Does::Ends | Does::Exits | Does::Text | Does::Branches => true,
     }
-    if does == 5 {
-        return is_condition(kinds, operand, nest);
-    }
-    if does == 7 {
-        return is_arithmetic(kinds, operand, nest);
-    }
-    if does < 8 {
-        return true;
-    }
-    is_named_by(kinds, name, does - 8) & is_operand_of(kinds, operand, does - 8, nest)
 }
 
 // Whether this byte is the `)` that pairs with the `(` at the start.
+#[tactic(auto, unfolding(crate::specs::Pairs::pairs_by))]
 fn pairs(c: u8, quoted: bool, depth: usize) -> bool
     ensures { result ≡ pairs_by c quoted depth }
 {
@@ -130,6 +106,7 @@ fn pairs(c: u8, quoted: bool, depth: usize) -> bool
 }
 
 // Whether quotes are open behind a byte.
+#[tactic(auto, unfolding(crate::specs::Pairs::quoted_by, rules::specs::Choice::choose))]
 pub fn quoted_after(c: u8, quoted: bool) -> bool
     ensures { result ≡ quoted_by c quoted }
 {
@@ -137,6 +114,7 @@ pub fn quoted_after(c: u8, quoted: bool) -> bool
 }
 
 // How many parentheses are open behind a byte.
+#[tactic(auto, unfolding(crate::specs::Pairs::depth_by, rules::specs::Choice::choose))]
 pub fn depth_after(c: u8, quoted: bool, depth: usize) -> usize
     requires { depth + 1 < 2 ^ 64 }
     ensures { (result ≡ depth_by c quoted depth) × (result ≤ depth + 1) }
@@ -148,10 +126,7 @@ pub fn depth_after(c: u8, quoted: bool, depth: usize) -> usize
         return depth + 1;
     }
     if c == b')' {
-        if depth == 0 {
-            return 0;
-        }
-        return depth - 1;
+        return depth.saturating_sub(1);
     }
     depth
 }
@@ -162,21 +137,19 @@ fn pair_at(code: &[u8]) -> usize
 {
     let mut quoted = false;
     let mut depth = 0;
-    let mut at = 0;
-    while at < code.len() {
+    for at in 0..code.len() {
         let c = grammar::text_at(code, at);
         if pairs(c, quoted, depth) {
             return at;
         }
         depth = depth_after(c, quoted, depth);
         quoted = quoted_after(c, quoted);
-        at += 1;
     }
-    at
+    code.len()
 }
 
-// Where AIF's condition ends: behind the `)` that pairs with the `(` at its start; 0 where it does not start with one.
-// Where nothing pairs it is one more than the field's length.
+// Where AIF's condition ends: behind the `)` that pairs with the `(` at its start. It is the number of the rules' own definition:
+// 0 where the field does not start with one, and one more than the field's length where nothing pairs.
 pub fn condition_end(code: &[u8]) -> usize
     ensures { (kinds : Bytes) → result ≡ condition_end (toks_at kinds code.now 0) }
 {

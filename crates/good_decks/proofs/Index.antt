@@ -14,7 +14,7 @@ use Rattle.deck.specs.Coding.{Read, after, get_byte, two, four}
 use Rattle.deck.specs.Coders.{line, contents, version_byte, whole_deck, versioned, counted, decoded}
 use Rattle.deck.specs.Good.{is_good, if_good, good_deck}
 use Rattle.deck_reading.specs.Reading.{two_at, run_end, line_at, reads}
-use Rattle.deck_reading.specs.declared.Read.TheVariants.{To}
+use Rattle.std.specs.Prelude.{Some}
 use Rattle.deck_reading.specs.Heads.{things_from, place_of, list_at, list_end, line_end, macro_at, macro_end, body_place, macros_place, deck_at, macro_place, line_place}
 use Rattle.deck_reading.proofs.Total.{Is, Total, total-some, total-then, total-two, total-byte, total-line, total-contents}
 
@@ -116,7 +116,7 @@ place-next end s i at = ap (λ (n : ℕ). place_of end s n at) (add-one i) ∙ l
     last (suc i) at = last i (end s at)
 
 -- A walk stands at a place from which on there are the same bytes as from the line's own: where it reads a line there, it is that line, and the walk then stands so at the next.
-pub row-right : (s : Bytes) (here own to : ℕ) → drop here s ≡ drop own s → reads (line_at s here) s (To to) ≡ line.get (drop here s) → (line_at s here ≡ line_at s own) × (drop to s ≡ drop (line_end s own) s)
+pub row-right : (s : Bytes) (here own to : ℕ) → drop here s ≡ drop own s → reads (line_at s here) s (Some to) ≡ line.get (drop here s) → (line_at s here ≡ line_at s own) × (drop to s ≡ drop (line_end s own) s)
 unfolding reads Is
 row-right s here own to e read =
     let is : Is (line_at s own) (drop (line_end s own) s) (line.get (drop here s)) = rw e (total-line s own) in

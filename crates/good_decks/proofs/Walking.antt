@@ -5,102 +5,69 @@ use mathlib.Core.Bool.{Bool, true, false, ◌&&◌, ◌||◌, not}
 use mathlib.Core.List.{List, ◌∷◌}
 use mathlib.Core.Option.{Option, none, some}
 use native.Mathlib.Omega.{arith}
-use lib.Dec.{eqb, leb}
-use lib.ListN.{length, length-replicate, replicate, get_or, drop, get_or-eq_default}
-use borrow.Author.Tests.{leb-true, leb-false, eqb-true, eq-eqb, ne_eqb}
+use lib.ListN.{length, length-replicate, replicate, drop}
+use borrow.Author.Tests.{eq-eqb, ne_eqb}
 use Rattle.text.specs.Bytes.{Bytes}
 use Rattle.rules.specs.Choice.{choose}
-use Rattle.rules.specs.Fields.{is_copied_remark}
-use Rattle.rules.specs.Statement.{Set, Line, doing}
-use Rattle.rules.proofs.Choices.{by, either, chosen, passed_over}
+use Rattle.rules.specs.Statement.{Set, Line, Does}
+use Rattle.rules.proofs.Choices.{chosen, passed_over}
 use Rattle.deck.specs.Slots.{Slot, DeckMacro, own_kinds_of, parameters, no_line}
 use Rattle.deck.specs.Coding.{Read, after}
 use Rattle.deck.specs.Coders.{line}
 use Rattle.deck.specs.Good.{does_end, does_count, may_precede, is_line}
-use Rattle.deck_reading.specs.Reading.{run_at, fields_line, line_by, line_at, reads}
-use Rattle.deck_reading.specs.declared.Read.{Read as Stop}
-use Rattle.deck_reading.specs.declared.Read.TheVariants.{To, Bad}
+use Rattle.deck_reading.specs.Reading.{two_at, run_at, fields_line, does_in, line_in, line_at, reads}
+use Rattle.std.specs.Prelude.{Option as Stop, Some, None}
+use Rattle.deck_reading.specs.declared.Fields.{Fields as Places}
+use Rattle.kinds.specs.Kinds.{does_for}
+use Rattle.good_tests.specs.Carried.{Carries}
+use Rattle.good_forms.proofs.Forms.{does-kept}
+use Rattle.good_forms.proofs.Texts.{carried}
 use Rattle.good_forms.specs.Kinded.{Kinded}
-use Rattle.good_forms.proofs.Texts.{copied_is}
 use Rattle.good_decks.specs.declared.Seen.{Seen}
 use Rattle.good_decks.specs.Walk.{sift, walk, unseen, seen_after, is_line_of, ends_where, counts_where, is_placed_here, placed_lines, rest_of, stops, with_lines}
 use Rattle.good_decks.proofs.Macros.{line_of}
 
--- ---- what a line does, by its byte
+-- ---- what a line does
 
-differs : (k i j : ℕ) → (i ≡ j → ⊥) → eqb k i ≡ true → false ≡ eqb k j
-differs k i j d e = sym (ne_eqb k j (λ f. d (sym (eqb-true k i e) ∙ f)))
-
-module _ (s : Bytes) (at : ℕ) where
-  pub ends_is : eqb (get_or s at 0) 1 ≡ does_end (line_at s at).does
-  unfolding line_at line_by doing fields_line does_end
-  ends_is =
-      let k = get_or s at 0 in
-      let P : Line Slot ℕ → Type 0 = λ l. does_end l.does ≡ eqb k 1 in
-      sym (either P (eqb k 0) (differs k 0 1 (λ e. omega arith)) λ a. either P (eqb k 1) (λ e. sym e) λ b. either P (eqb k 2) (differs k 2 1 (λ e. omega arith)) λ c. either P (eqb k 3) (differs k 3 1 (λ e. omega arith)) λ d.
-      either P (eqb k 4) (differs k 4 1 (λ e. omega arith)) λ e. either P (eqb k 5) (differs k 5 1 (λ e. omega arith)) λ f. either P (eqb k 6) (differs k 6 1 (λ e. omega arith)) λ g. either P (eqb k 7) (differs k 7 1 (λ e. omega arith)) λ h. sym b)
-
-  pub counts-is : eqb (get_or s at 0) 7 ≡ does_count (line_at s at).does
-  unfolding line_at line_by doing fields_line does_count
-  counts-is =
-      let k = get_or s at 0 in
-      let P : Line Slot ℕ → Type 0 = λ l. does_count l.does ≡ eqb k 7 in
-      sym (either P (eqb k 0) (differs k 0 7 (λ e. omega arith)) λ a. either P (eqb k 1) (differs k 1 7 (λ e. omega arith)) λ b. either P (eqb k 2) (differs k 2 7 (λ e. omega arith)) λ c. either P (eqb k 3) (differs k 3 7 (λ e. omega arith)) λ d.
-      either P (eqb k 4) (differs k 4 7 (λ e. omega arith)) λ e. either P (eqb k 5) (differs k 5 7 (λ e. omega arith)) λ f. either P (eqb k 6) (differs k 6 7 (λ e. omega arith)) λ g. either P (eqb k 7) (λ e. sym e) λ h. sym h)
-
-  pub passes-first : get_or s at 0 ≡ 0 → true ≡ may_precede (line_at s at).does
-  unfolding line_at line_by doing may_precede choose
-  passes-first e = rw e refl
-
-  pub text-first : get_or s at 0 ≡ 3 → (t : Bytes) → t ≡ run_at s (at + 1) → (b : ℕ) → b ≡ get_or t 0 0 → eqb b 42 ≡ may_precede (line_at s at).does
-  unfolding line_at line_by doing may_precede choose
-  text-first e t et b eb = rw e (ap (λ (b : ℕ). eqb b 42) eb ∙ (copied_is t ∙ ap is_copied_remark et))
-
-  pub other-first : (get_or s at 0 ≡ 0 → ⊥) → (get_or s at 0 ≡ 3 → ⊥) → false ≡ may_precede (line_at s at).does
-  unfolding line_at line_by doing fields_line may_precede
-  other-first x y =
-      let k = get_or s at 0 in
-      let P : Line Slot ℕ → Type 0 = λ l. false ≡ may_precede l.does in
-      either P (eqb k 0) (λ e. absurd (x (eqb-true k 0 e))) λ a. either P (eqb k 1) (λ e. refl) λ b. either P (eqb k 2) (λ e. refl) λ c. either P (eqb k 3) (λ e. absurd (y (eqb-true k 3 e))) λ d.
-      either P (eqb k 4) (λ e. refl) λ e. either P (eqb k 5) (λ e. refl) λ f. either P (eqb k 6) (λ e. refl) λ g. either P (eqb k 7) (λ e. refl) λ h. refl
-
-  -- a byte that is there
-  pub byte-there : get_or s at 0 ≡ 3 → at < length s
-  byte-there e = by (leb (length s) at) (λ h. let z = get_or-eq_default s 0 (leb-true (length s) at h) in absurd (omega (arith, e, z))) (λ h. leb-false (length s) at h)
+pub precedes-told : (s : Bytes) (at : ℕ) (f : Places) → line_in s f ≡ line_at s at → {t : Bytes} → t ≡ run_at s f.first → {r : Bool}
+    → ((d : Does ℕ) (n : ℕ) → f.does ≡ does_for d → Carries t n d → r ≡ may_precede d) → r ≡ may_precede (line_at s at).does
+unfolding line_in fields_line
+precedes-told s at f e et g =
+    g (does_in f.does s f.first) (two_at s f.first) (does-kept f.does s f.first) (carried s f.first et refl f.does) ∙ ap (λ (l : Line Slot ℕ). may_precede l.does) e
 
 -- ---- what has been seen
 
-module _ (s : Bytes) (at : ℕ) (p : Seen) (c : Bool) (e : c ≡ may_precede (line_at s at).does) (b : ℕ) (f : b ≡ get_or s at 0) where
-  pub seen-actr : b ≡ 7 → record { lines = p.lines + 1; actr = p.lines + 1; clear = p.clear && c } ≡ seen_after p (line_at s at)
+module _ (l : Line Slot ℕ) (p : Seen) {c b : Bool} (e : c ≡ may_precede l.does) (f : b ≡ does_count l.does) where
+  pub seen-actr : b ≡ true → record { lines = p.lines + 1; actr = p.lines + 1; clear = p.clear && c } ≡ seen_after p l
   unfolding seen_after choose
   seen-actr h =
-      let is : does_count (line_at s at).does ≡ true = sym (counts-is s at) ∙ eq-eqb (get_or s at 0) 7 (sym f ∙ h) in
+      let is : does_count l.does ≡ true = sym f ∙ h in
       let n : p.lines + 1 ≡ suc p.lines = omega arith in
       rw is (λ j. record { lines = n j; actr = n j; clear = p.clear && e j })
 
-  pub seen_other : (b ≡ 7 → ⊥) → record { lines = p.lines + 1; actr = p.actr; clear = p.clear && c } ≡ seen_after p (line_at s at)
+  pub seen_other : b ≡ false → record { lines = p.lines + 1; actr = p.actr; clear = p.clear && c } ≡ seen_after p l
   unfolding seen_after choose
   seen_other h =
-      let is : does_count (line_at s at).does ≡ false = sym (counts-is s at) ∙ ne_eqb (get_or s at 0) 7 (λ g. h (f ∙ g)) in
+      let is : does_count l.does ≡ false = sym f ∙ h in
       let n : p.lines + 1 ≡ suc p.lines = omega arith in
       rw is (λ j. record { lines = n j; actr = p.actr; clear = p.clear && e j })
 
 -- ---- a line's tests
 
-module _ (s : Bytes) (at : ℕ) (p : Seen) (count b : ℕ) (f : b ≡ get_or s at 0) where
-  pub last_line : p.lines + 1 ≡ count → eqb b 1 ≡ ends_where count p (line_at s at)
+module _ (l : Line Slot ℕ) (p : Seen) (count : ℕ) {b : Bool} (f : b ≡ does_end l.does) where
+  pub last_line : p.lines + 1 ≡ count → b ≡ ends_where count p l
   unfolding ends_where
-  last_line h = let l : suc p.lines ≡ count = omega arith in ap (λ (b : ℕ). eqb b 1) f ∙ (ends_is s at ∙ sym (chosen _ _ (eq-eqb (suc p.lines) count l)))
+  last_line h = let k : suc p.lines ≡ count = omega arith in f ∙ sym (chosen _ _ (eq-eqb (suc p.lines) count k))
 
-  pub inner-line : (p.lines + 1 ≡ count → ⊥) → not (eqb b 1) ≡ ends_where count p (line_at s at)
+  pub inner-line : (p.lines + 1 ≡ count → ⊥) → not b ≡ ends_where count p l
   unfolding ends_where
   inner-line h =
       let n : suc p.lines ≡ p.lines + 1 = omega arith in
-      ap (λ (b : ℕ). not (eqb b 1)) f ∙ (ap not (ends_is s at) ∙ sym (passed_over _ _ (ne_eqb (suc p.lines) count (λ g. h (sym n ∙ g)))))
+      ap not f ∙ sym (passed_over _ _ (ne_eqb (suc p.lines) count (λ g. h (sym n ∙ g))))
 
-  pub counts-here : (not (eqb b 7) || p.clear) ≡ counts_where p (line_at s at)
-  unfolding counts_where
-  counts-here = ap (λ (b : ℕ). not (eqb b 7) || p.clear) f ∙ ap (λ (b : Bool). not b || p.clear) (counts-is s at)
+pub counts-here : (l : Line Slot ℕ) (p : Seen) {b : Bool} → b ≡ does_count l.does → (not b || p.clear) ≡ counts_where p l
+unfolding counts_where
+counts-here l p f = ap (λ (b : Bool). not b || p.clear) f
 
 -- a macro with as many lines as are to come
 module _ (kinds : Bytes) (globals : List Set) (h : DeckMacro) (k : Kinded kinds globals h) (count : ℕ) where
@@ -127,17 +94,17 @@ module _ (s : Bytes) (globals : List Set) (h : DeckMacro) (count : ℕ) where
   abbrev Left : ℕ → Seen → ℕ → Option Bytes
   Left n p at = rest_of (placed_lines globals h count n p (drop at s))
 
-  pub all-walked : (n : ℕ) (p : Seen) (at : ℕ) → n ≡ 0 → Left n p at ≡ stops s (To at)
+  pub all-walked : (n : ℕ) (p : Seen) (at : ℕ) → n ≡ 0 → Left n p at ≡ stops s (Some at)
   unfolding placed_lines walk rest_of stops
   all-walked n p at e = rw e refl
 
   module _ (n k : ℕ) (p : Seen) (at : ℕ) (e : n ≡ suc k) where
-    pub line-unread : reads (line_at s at) s Bad ≡ line.get (drop at s) → Left n p at ≡ stops s Bad
+    pub line-unread : reads (line_at s at) s None ≡ line.get (drop at s) → Left n p at ≡ stops s None
     unfolding placed_lines walk rest_of stops reads sift after
     line-unread f = rw (e, sym f) refl
 
-    module _ (to : ℕ) (f : reads (line_at s at) s (To to) ≡ line.get (drop at s)) where
-      pub line_refused : is_placed_here globals h count p (line_at s at) ≡ false → Left n p at ≡ stops s Bad
+    module _ (to : ℕ) (f : reads (line_at s at) s (Some to) ≡ line.get (drop at s)) where
+      pub line_refused : is_placed_here globals h count p (line_at s at) ≡ false → Left n p at ≡ stops s None
       unfolding placed_lines walk rest_of stops reads sift after choose
       line_refused g = rw (e, sym f, g) refl
 
@@ -159,18 +126,18 @@ module _ (s kinds : Bytes) (count : ℕ) where
   walk-starts at globals h k = let z : count ≡ count - 0 = omega arith in ap (λ (n : ℕ). rest_of (placed_lines globals h count n unseen (drop at s))) z
 
   module _ (i : ℕ) (p : Seen) (at start : ℕ) (inv : Promised i p at start) where
-    pub walk_ends : count ≤ i → (globals : List Set) (h : DeckMacro) → Kinded kinds globals h → stops s (To at) ≡ rest_of (placed_lines globals h count count unseen (drop start s))
+    pub walk_ends : count ≤ i → (globals : List Set) (h : DeckMacro) → Kinded kinds globals h → stops s (Some at) ≡ rest_of (placed_lines globals h count count unseen (drop start s))
     walk_ends l globals h k = let z : count - i ≡ 0 = omega arith in sym (inv globals h k ∙ all-walked s globals h count (count - i) p at z)
 
-    module _ (less : i < count) (r : Stop) (read : reads (line_at s at) s r ≡ line.get (drop at s)) where
+    module _ (less : i < count) (r : Stop ℕ) (read : reads (line_at s at) s r ≡ line.get (drop at s)) where
       one_less : count - i ≡ suc (count - (i + 1))
       one_less = omega arith
 
-      pub walk-unread : r ≡ Bad → (globals : List Set) (h : DeckMacro) → Kinded kinds globals h → stops s Bad ≡ rest_of (placed_lines globals h count count unseen (drop start s))
+      pub walk-unread : r ≡ None → (globals : List Set) (h : DeckMacro) → Kinded kinds globals h → stops s None ≡ rest_of (placed_lines globals h count count unseen (drop start s))
       walk-unread e globals h k = sym (inv globals h k ∙ line-unread s globals h count (count - i) (count - (i + 1)) p at one_less (rw e at read))
 
-      module _ (to : ℕ) (e : r ≡ To to) (b : Bool) (test : (globals : List Set) (h : DeckMacro) → Kinded kinds globals h → b ≡ is_placed_here globals h count p (line_at s at)) where
-        pub walk_refused : b ≡ false → (globals : List Set) (h : DeckMacro) → Kinded kinds globals h → stops s Bad ≡ rest_of (placed_lines globals h count count unseen (drop start s))
+      module _ (to : ℕ) (e : r ≡ Some to) (b : Bool) (test : (globals : List Set) (h : DeckMacro) → Kinded kinds globals h → b ≡ is_placed_here globals h count p (line_at s at)) where
+        pub walk_refused : b ≡ false → (globals : List Set) (h : DeckMacro) → Kinded kinds globals h → stops s None ≡ rest_of (placed_lines globals h count count unseen (drop start s))
         walk_refused f globals h k = sym (inv globals h k ∙ line_refused s globals h count (count - i) (count - (i + 1)) p at one_less to (rw e at read) (sym (test globals h k) ∙ f))
 
         pub walk-on : b ≡ true → (q : Seen) → q ≡ seen_after p (line_at s at) → Promised (i + 1) q to start

@@ -1,5 +1,5 @@
 -- The test of good form as one pass over a deck's bytes: each thing is read once and tested where it stands, and the pass ends at the first that fails.
-use Rattle.std.specs.Prelude.{ℕ, zero, suc, ◌+◌, Bool, true, false, ◌&&◌, ◌||◌, not, List, [], ◌∷◌, ◌++◌, eqb, leb, ltb, length, drop}
+use Rattle.std.specs.Prelude.{ℕ, zero, suc, ◌+◌, Bool, true, false, ◌&&◌, ◌||◌, not, List, [], ◌∷◌, ◌++◌, eqb, leb, ltb, length, drop, Option as Stop, Some, None}
 use Rattle.std.proofs.Math.Option.{Option, none, some}
 use Rattle.text.specs.Bytes.{Bytes, same}
 use Rattle.rules.specs.Choice.{choose, any}
@@ -11,8 +11,6 @@ use Rattle.deck.specs.Slots.{Slot, DeckMacro, Deck, parameters, slot_kind}
 use Rattle.deck.specs.Coding.{Read, after, get_byte, two, four, pair, list_of}
 use Rattle.deck.specs.Coders.{string, kind, flag, line, version_byte}
 use Rattle.deck.specs.AsRead.{is_read_line, is_read_default}
-use Rattle.deck_reading.specs.declared.Read.{Read as Stop}
-use Rattle.deck_reading.specs.declared.Read.TheVariants.{To, Bad}
 use Rattle.good_decks.specs.declared.Seen.{Seen}
 use Rattle.deck.specs.Good.{is_keyword, are_lexemes, is_in_order, does_end, does_count, may_precede}
 
@@ -89,9 +87,9 @@ unfoldable pub rest_of : {A : Type 0} → Read A → Option Bytes
 rest_of none = none
 rest_of (some r) = some r.1
 
-unfoldable pub stops : Bytes → Stop → Option Bytes
-stops s (To n) = some (drop n s)
-stops s Bad = none
+unfoldable pub stops : Bytes → Stop ℕ → Option Bytes
+stops s (Some n) = some (drop n s)
+stops s None = none
 
 -- ---- keywords
 

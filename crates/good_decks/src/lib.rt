@@ -9,9 +9,7 @@ ghost use Rattle.deck_reading.specs.Reading.{line_at};
 ghost use Rattle.good_forms.specs.Kinded.{Kinded};
 ghost use Rattle.good_decks.specs.Walk.{unseen, seen_after, ends_where, counts_where, is_placed_here, placed_lines, rest_of, stops};
 
-use deck_reading::Read;
-
-// What the pass has seen of a body: how many lines, how many of them up to ACTR and with it (0 where there is none yet),
+// What the pass has seen of a body: how many lines, how many of them up to ACTR and with it (none of them where it has not come, so 0),
 // and whether ACTR may still come.
 #[derive(Clone, Copy)]
 pub struct Seen {
@@ -24,15 +22,8 @@ pub struct Seen {
 fn may_precede(deck: &[u8], at: usize) -> bool
     ensures { result ≡ may_precede (line_at deck.now at).does }
 {
-    let does = lent::byte(deck, at);
-    if does == 0 {
-        return true;
-    }
-    if does == 3 {
-        let first = at + 1;
-        return lent::byte(deck_reading::run_at(deck, first), 0) == b'*';
-    }
-    false
+    let f = deck_reading::line_fields(deck, at);
+    good_tests::may_precede(f.does, deck_reading::run_at(deck, f.first))
 }
 
 // What has been seen behind the line at a place.
@@ -42,17 +33,17 @@ fn seen_after(deck: &[u8], at: usize, seen: Seen) -> Seen
 {
     let lines = seen.lines + 1;
     let clear = seen.clear & may_precede(deck, at);
-    if lent::byte(deck, at) == 7 {
+    if good_tests::does_count(deck_reading::does_at(deck, at)) {
         return Seen {
-            lines: lines,
+            lines,
             actr: lines,
-            clear: clear,
+            clear,
         };
     }
     Seen {
-        lines: lines,
-        actr: seen.actr,
-        clear: clear,
+        lines,
+        clear,
+        ..seen
     }
 }
 
@@ -61,7 +52,7 @@ fn ends_where(deck: &[u8], at: usize, seen: Seen, count: usize) -> bool
     requires { seen.lines + 1 < 2 ^ 64 }
     ensures { result ≡ ends_where count seen (line_at deck.now at) }
 {
-    let ends = lent::byte(deck, at) == 1;
+    let ends = good_tests::does_end(deck_reading::does_at(deck, at));
     if seen.lines + 1 == count {
         return ends;
     }
@@ -72,7 +63,7 @@ fn ends_where(deck: &[u8], at: usize, seen: Seen, count: usize) -> bool
 fn counts_where(deck: &[u8], at: usize, seen: Seen) -> bool
     ensures { result ≡ counts_where seen (line_at deck.now at) }
 {
-    !(lent::byte(deck, at) == 7) | seen.clear
+    !good_tests::does_count(deck_reading::does_at(deck, at)) | seen.clear
 }
 
 // Whether the line at a place is in its place, in order and well formed.
@@ -86,26 +77,22 @@ fn is_placed(deck: &[u8], at: usize, kinds: &[u8], seen: Seen, count: usize) -> 
 }
 
 // The place behind `count` lines from a place on, each of them in its place; or nothing.
-pub fn walk_lines(deck: &[u8], kinds: &[u8], at: usize, count: usize) -> Read
+pub fn walk_lines(deck: &[u8], kinds: &[u8], at: usize, count: usize) -> Option<usize>
     ensures { (globals : List Set) (h : DeckMacro) → Kinded kinds.now globals h → stops deck.now result ≡ rest_of (placed_lines globals h count count unseen (drop at deck.now)) }
 {
     let mut place = at;
-    let mut i = 0;
     let mut seen = Seen {
         lines: 0,
         actr: 0,
         clear: true,
     };
-    while i < count {
-        let Read::To(next) = deck_reading::read_line(deck, place) else {
-            return Read::Bad;
-        };
+    for _ in 0..count {
+        let next = deck_reading::read_line(deck, place)?;
         if !is_placed(deck, place, kinds, seen, count) {
-            return Read::Bad;
+            return None;
         }
         seen = seen_after(deck, place, seen);
         place = next;
-        i += 1;
     }
-    Read::To(place)
+    Some(place)
 }

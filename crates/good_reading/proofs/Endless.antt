@@ -95,11 +95,10 @@ unfolding every
 every-lexeme test [] = refl
 every-lexeme test (b ∷ l) = ap (λ t. test (slot_lex b) && t) (every-lexeme test l)
 
-pub space-stops : (c : ℕ) → c ≡ 32 → not (eqb (byte_of (slot_lex c)) space) ≡ false
-space-stops c e = ap not (sym (same_byte c 32 (omega arith) (omega arith)) ∙ eq-eqb c 32 e)
-
-pub other-passes : (c : ℕ) → (c ≡ 32 → ⊥) → not (eqb (byte_of (slot_lex c)) space) ≡ true
-other-passes c e = ap not (sym (same_byte c 32 (omega arith) (omega arith)) ∙ ne_eqb c 32 e)
+pub spaceless : (code : Bytes) → every (λ (b : ℕ). not (eqb b 32)) code ≡ every (λ y. not (eqb (byte_of y) space)) (map slot_lex code)
+unfolding every
+spaceless [] = refl
+spaceless (b ∷ l) = λ j. not (same_byte b 32 (omega arith) (omega arith) j) && spaceless l j
 
 pub plainly-starts : (code : Bytes) → not (eqb (get_or code 0 0) 46 || eqb (get_or code 0 0) 42) ≡ starts_plainly (map slot_lex code)
 unfolding starts_plainly

@@ -132,9 +132,9 @@ module _ (t : State) where
   marks-by next front e = ap (λ (f : Bool). not (before_of t).quoted && (f && (member (before_of t).first (bytes "KNTL") && not (letter_or_digit (before_of t).second || eqb (before_of t).second 38)))) e
 
   module _ (c : ℕ) (rest : List (Lex Slot)) (m : Bool) (e : m ≡ marks_here (before_of t) rest) where
-    pub reads-text : c < 127 → (l : Bool) → l ≡ letter_or_digit c → (not (eqb t.first 0 && l) && not (eqb c 39 && m)) ≡ is_read_at (before_of t) (slot_lex c) rest
+    pub reads-text : c < 127 → (l : Bool) → l ≡ letter_or_digit c → (not (eqb t.before.first 0 && l) && not (eqb c 39 && m)) ≡ is_read_at (before_of t) (slot_lex c) rest
     unfolding is_read_at before_of
-    reads-text h l d = (λ i. not (eqb t.first 0 && d i) && not (eqb c 39 && e i)) ∙ sym (ap (λ x. is_read_at (before_of t) x rest) (is-text c h))
+    reads-text h l d = (λ i. not (eqb t.before.first 0 && d i) && not (eqb c 39 && e i)) ∙ sym (ap (λ x. is_read_at (before_of t) x rest) (is-text c h))
 
     pub reads-mark : c ≡ 127 → m ≡ is_read_at (before_of t) (slot_lex c) rest
     unfolding is_read_at

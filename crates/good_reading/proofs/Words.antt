@@ -9,6 +9,11 @@ use lib.ListN.{length}
 use borrow.Author.Tests.{ltb-true, ne_eqb, lt-ltb, le-ltb, ltb-false, not-true}
 use Rattle.text.specs.Bytes.{Bytes, same}
 use Rattle.text.specs.Words.{place_among, words, word_number}
+use Rattle.std.specs.Prelude.{Option}
+use Rattle.std.specs.Option.{is_some}
+use Rattle.kinds.specs.declared.Word.{Word}
+use Rattle.words.specs.Places.{place_of}
+use Rattle.words.proofs.Laws.{no-word}
 use Rattle.rules.specs.Choice.{every, any}
 use Rattle.rules.specs.Lexemes.{Lex, is_plain}
 use Rattle.rules.specs.Fields.{is_empty}
@@ -97,7 +102,7 @@ unfolding is_empty
 there [] = refl
 there (c ∷ l) = ap not (ne_eqb (suc (length l)) 0 (λ e. omega (arith, e)))
 
-pub operation-is : (code : Bytes) (n : ℕ) (field : Bool) → n ≡ word_number code → field ≡ is_word_field (map slot_lex code)
-    → (not (eqb (length code) 0) && (field && not (ltb n 16))) ≡ is_model_operation (map slot_lex code)
+pub operation-is : (code : Bytes) (word : Option Word) (field none : Bool) → place_of word ≡ word_number code → field ≡ is_word_field (map slot_lex code) → is_some word ≡ not none
+    → (not (eqb (length code) 0) && (field && none)) ≡ is_model_operation (map slot_lex code)
 unfolding is_model_operation
-operation-is code n field e f = λ i. there code i && (f i && not ((ap (λ k. ltb k 16) e ∙ sym (language-word code)) i))
+operation-is code word field none e f g = λ i. there code i && (f i && ((no-word word none code e g).0 ∙ ap not (sym (language-word code))) i)

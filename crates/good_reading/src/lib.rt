@@ -7,48 +7,50 @@ ghost use Rattle.rules.specs.Lexemes.{space, byte_of, follows, outside, enters};
 ghost use Rattle.rules.specs.Statement.{Line};
 ghost use Rattle.deck.specs.Slots.{Slot};
 ghost use Rattle.deck.specs.AsRead.{last_byte, follows_in, marks_here, is_read_at, is_field, is_word_field, is_end, is_operand, starts_plainly, is_model_operation, is_read_line, is_read_default};
-ghost use Rattle.forms.specs.Numbers.{does_number};
+ghost use Rattle.kinds.specs.Kinds.{does_for};
 ghost use Rattle.deck_reading.specs.Reading.{slot_lex};
 ghost use Rattle.good_reading.specs.Trails.{before_of, reads_by, trail_after, ends_by};
+
+use coding::Before;
+use deck_reading::{LEXEMES, MARK};
+use kinds::{Does, Set};
 
 // What lexemes leave behind them: the two bytes before the next one (spaces at the field's start), whether a quote is open, and whether an ampersand
 // stands there that is no pair yet.
 #[derive(Clone, Copy)]
 pub struct Trail {
-    pub second: u8,
-    pub first: u8,
-    pub quoted: bool,
+    pub before: Before,
     pub odd: bool,
 }
 
-// The text byte that a lexeme is; 0 for any other.
+// The text byte that a lexeme is; 0 for any other, as the definition has it.
 fn text_of(c: u8) -> u8
     ensures { result ≡ byte_of (slot_lex c) }
 {
-    if c < 127 { c } else { 0 }
+    if c < MARK { c } else { 0 }
 }
 
 // The byte that a lexeme leaves behind it: 0 behind a variable symbol.
 fn last_of(c: u8) -> u8
     ensures { result ≡ last_byte (slot_lex c) }
 {
-    if c < 127 {
+    if c < MARK {
         return c;
     }
-    if c == 127 {
+    if c == MARK {
         return b'\'';
     }
-    if c < 227 { 0 } else { b'&' }
+    if c < LEXEMES { 0 } else { b'&' }
 }
 
 // The byte that a lexeme begins with, where a line has it.
 fn front_of(c: u8) -> u8
     ensures { follows (result ∷ []) ≡ follows_in (slot_lex c ∷ []) }
 {
-    if c < 127 {
+    if c < MARK {
         return c;
     }
-    if c == 127 { b'\'' } else { b'&' }
+    if c == MARK { b'\'' } else { b'&' }
 }
 
 // Whether an apostrophe would be an attribute mark here, before the lexeme `next`.
@@ -56,23 +58,23 @@ fn marks_here(trail: Trail, next: u8) -> bool
     ensures { result ≡ marks_here (before_of trail) (slot_lex next ∷ []) }
 {
     let front = front_of(next);
-    coding::is_mark(trail.second, trail.first, trail.quoted, b'\'', front)
+    coding::is_mark(trail.before, b'\'', front)
 }
 
 // Whether the reader can give the lexeme `c` here, before the lexeme `next`.
 fn is_read_at(trail: Trail, c: u8, next: u8) -> bool
     ensures { result ≡ is_read_at (before_of trail) (slot_lex c) (slot_lex next ∷ []) }
 {
-    let first = trail.first;
+    let first = trail.before.first;
     let marks = marks_here(trail, next);
     let lettered = chars::letter_or_digit(c);
-    if c < 127 {
+    if c < MARK {
         return !((first == 0) & lettered) & !((c == b'\'') & marks);
     }
-    if c == 127 {
+    if c == MARK {
         return marks;
     }
-    c < 227
+    c < LEXEMES
 }
 
 // Whether it can, and an ampersand left over has its pair in it.
@@ -99,14 +101,13 @@ fn trail_after(trail: Trail, c: u8, quotes: bool) -> Trail
     ensures { result ≡ trail_after quotes trail (slot_lex c) }
 {
     let text = text_of(c);
-    let last = last_of(c);
-    let quoted = quoted_after(trail.quoted, text, quotes);
     let odd = trail.odd;
-    let second = trail.first;
     Trail {
-        second,
-        first: last,
-        quoted,
+        before: Before {
+            second: trail.before.first,
+            first: last_of(c),
+            quoted: quoted_after(trail.before.quoted, text, quotes),
+        },
         odd: (text == b'&') & !odd,
     }
 }
@@ -115,38 +116,28 @@ fn trail_after(trail: Trail, c: u8, quotes: bool) -> Trail
 pub fn is_field(code: &[u8], quotes: bool) -> bool
     ensures { result ≡ is_field quotes (map slot_lex code.now) }
 {
-    let mut i = 0;
     let mut trail = Trail {
-        second: b' ',
-        first: b' ',
-        quoted: false,
+        before: Before {
+            second: b' ',
+            first: b' ',
+            quoted: false,
+        },
         odd: false,
     };
-    while i < code.len() {
-        let c = code[i];
-        let next = lent::byte(code, i + 1);
-        if !reads(trail, c, next) {
+    for (i, &c) in code.iter().enumerate() {
+        if !reads(trail, c, lent::byte(code, i + 1)) {
             return false;
         }
-        i += 1;
         trail = trail_after(trail, c, quotes);
     }
-    let odd = trail.odd;
-    !odd
+    !trail.odd
 }
 
 // Whether a field has no space.
 fn is_spaceless(code: &[u8]) -> bool
     ensures { result ≡ every (λ y. not (eqb (byte_of y) space)) (map slot_lex code.now) }
 {
-    let mut i = 0;
-    while i < code.len() {
-        if code[i] == b' ' {
-            return false;
-        }
-        i += 1;
-    }
-    true
+    code.iter().all(|&b| b != b' ')
 }
 
 // Whether a field is a name or an operation as the reader gives it.
@@ -171,15 +162,13 @@ fn is_endless(code: &[u8], holds: bool) -> bool
 {
     let mut quoted = false;
     let mut depth = 0;
-    let mut i = 0;
-    while i < code.len() {
-        let text = text_of(code[i]);
+    for &c in code {
+        let text = text_of(c);
         if ends_at(holds, text, quoted, depth) {
             return false;
         }
         depth = forms::depth_after(text, quoted, depth);
         quoted = forms::quoted_after(text, quoted);
-        i += 1;
     }
     true
 }
@@ -207,24 +196,24 @@ pub fn is_model_operation(code: &[u8]) -> bool
 {
     let word = words::word(code);
     let field = is_word_field(code);
-    (code.len() != 0) & (field & !(word < 16))
+    (code.len() != 0) & (field & word.is_none())
 }
 
 // Whether a line that does this has fields as the reader gives them; a field that it does not have is empty.
-pub fn is_read_line(does: u8, name: &[u8], operation: &[u8], operand: &[u8]) -> bool
-    ensures { (l : Line Slot ℕ) → does ≡ does_number l.does → l.name ≡ map slot_lex name.now → l.operation ≡ map slot_lex operation.now → l.operand ≡ map slot_lex operand.now → result ≡ is_read_line l }
+pub fn is_read_line(does: Does, name: &[u8], operation: &[u8], operand: &[u8]) -> bool
+    ensures { (l : Line Slot ℕ) → does ≡ does_for l.does → l.name ≡ map slot_lex name.now → l.operation ≡ map slot_lex operation.now → l.operand ≡ map slot_lex operand.now → result ≡ is_read_line l }
 {
-    if does == 4 {
-        return is_word_field(name)
-            & (starts_plainly(name) & (is_model_operation(operation) & is_operand(operand, false)));
+    match does {
+        Does::Models => {
+            is_word_field(name)
+                & (starts_plainly(name)
+                    & (is_model_operation(operation) & is_operand(operand, false)))
+        }
+        Does::BranchesIf => is_operand(operand, true),
+        Does::Sets(set) => is_operand(operand, set == Set::B),
+        Does::Counts => is_operand(operand, false),
+        Does::Passes | Does::Ends | Does::Exits | Does::Text | Does::Branches => true,
     }
-    if (does == 5) | (does == 9) {
-        return is_operand(operand, true);
-    }
-    if does < 7 {
-        return true;
-    }
-    is_operand(operand, false)
 }
 
 // Whether a keyword's default is as the reader gives it.

@@ -3,22 +3,24 @@
 
 ghost use Rattle.std.specs.Prelude.{◌≡◌, true, not, ◌&&◌, map, ℕ, ◌<◌};
 ghost use Rattle.text.specs.Bytes.{bytes};
-ghost use Rattle.rules.specs.Choice.{every};
 ghost use Rattle.rules.specs.Limits.{name_limit};
 ghost use Rattle.rules.specs.Lexemes.{lexed, is_name};
 ghost use Rattle.rules.specs.Fields.{Fields, is_ill_written, is_copied_remark, starts_with};
-ghost use Rattle.rules.specs.Statement.{Does};
+ghost use Rattle.rules.specs.Statement.{Does as Doing};
 ghost use Rattle.rules.specs.Faults.{is_default};
 ghost use Rattle.deck.specs.Good.{is_keyword, is_lexeme, are_lexemes, is_statement_text, is_text, is_target, is_in_order, does_end, does_count, may_precede};
-ghost use Rattle.forms.specs.Numbers.{does_number};
+ghost use Rattle.kinds.specs.Kinds.{does_for};
 ghost use Rattle.deck_reading.specs.Reading.{slot_lex};
 ghost use Rattle.good_tests.specs.Carried.{Carries};
+
+use deck_reading::{LEXEMES, MARK};
+use kinds::Does;
 
 // Whether a keyword may have this name.
 pub fn is_keyword_name(name: &[u8]) -> bool
     ensures { result ≡ (is_name name_limit name.now && not (starts_with (bytes "SYS") name.now)) }
 {
-    let good = statements::is_name(name, 7);
+    let good = statements::is_name(name, limits::NAME);
     let system = declaring::begins_sys(name);
     good & !system
 }
@@ -45,39 +47,17 @@ pub fn is_keyword(name: &[u8], default: &[u8]) -> bool
 fn is_lexeme(c: u8) -> bool
     ensures { result ≡ is_lexeme (slot_lex c) }
 {
-    if c < 127 {
+    if c < MARK {
         return chars::in_set(c);
     }
-    c < 227
-}
-
-// Whether each lexeme of a field may stand in a line.
-fn all_lexemes(code: &[u8]) -> bool
-    ensures { result ≡ every is_lexeme (map slot_lex code.now) }
-{
-    let mut i = 0;
-    while i < code.len() {
-        if !is_lexeme(code[i]) {
-            return false;
-        }
-        i += 1;
-    }
-    true
+    c < LEXEMES
 }
 
 // Whether a field is no longer than a line, and its lexemes may stand in one.
 pub fn are_lexemes(code: &[u8]) -> bool
     ensures { result ≡ are_lexemes (map slot_lex code.now) }
 {
-    let all = all_lexemes(code);
-    (code.len() <= 71) & all
-}
-
-// Whether a line is a remark that is copied.
-pub fn is_copied_remark(line: &[u8]) -> bool
-    ensures { result ≡ is_copied_remark line.now }
-{
-    lent::byte(line, 0) == b'*'
+    (code.len() <= limits::LINE) & code.iter().all(|&c| is_lexeme(c))
 }
 
 // Whether a statement with these fields is used as it stands.
@@ -89,7 +69,7 @@ fn is_statement_text(name: &[u8], operation: &[u8], operand: &[u8]) -> bool
     let second = declared::is_plain(operation);
     let third = declared::is_plain(operand);
     let dot = lent::byte(name, 0);
-    (operation.len() != 0) & (!(word < 16) & ((first & (second & third)) & (dot != b'.')))
+    (operation.len() != 0) & (word.is_none() & ((first & (second & third)) & (dot != b'.')))
 }
 
 // Whether a line is used as it stands: a remark that is copied, or a statement without symbols.
@@ -99,7 +79,7 @@ pub fn is_text(line: &[u8]) -> bool
     if written::is_ill_written(line) {
         return false;
     }
-    if is_copied_remark(line) {
+    if written::is_copied_remark(line) {
         return true;
     }
     if statements::is_remark(line) {
@@ -119,38 +99,45 @@ pub fn is_target(actr: usize, count: usize, target: usize) -> bool
 }
 
 // Whether what a line does is in order, in a macro of `count` lines whose ACTR ends before line `actr`.
-pub fn is_in_order(does: u8, text: &[u8], target: usize, actr: usize, count: usize) -> bool
-    ensures { (d : Does ℕ) → does ≡ does_number d → Carries text.now target d → result ≡ is_in_order actr count d }
+pub fn is_in_order(does: Does, text: &[u8], target: usize, actr: usize, count: usize) -> bool
+    ensures { (d : Doing ℕ) → does ≡ does_for d → Carries text.now target d → result ≡ is_in_order actr count d }
 {
-    if does == 3 {
-        return is_text(text);
+    match does {
+        Does::Text => is_text(text),
+        Does::BranchesIf | Does::Branches => is_target(actr, count, target),
+        Does::Passes | Does::Ends | Does::Exits | Does::Models | Does::Counts | Does::Sets(_) => {
+            true
+        }
     }
-    if (does == 5) | (does == 6) {
-        return is_target(actr, count, target);
-    }
-    true
 }
 
 // Whether a line that does this may stand before ACTR: a declaration or a remark.
-pub fn may_precede(does: u8, text: &[u8]) -> bool
-    ensures { (d : Does ℕ) (t : ℕ) → does ≡ does_number d → Carries text.now t d → result ≡ may_precede d }
+pub fn may_precede(does: Does, text: &[u8]) -> bool
+    ensures { (d : Doing ℕ) (t : ℕ) → does ≡ does_for d → Carries text.now t d → result ≡ may_precede d }
 {
-    if does == 3 {
-        return is_copied_remark(text);
+    match does {
+        Does::Passes => true,
+        Does::Text => written::is_copied_remark(text),
+        Does::Ends
+        | Does::Exits
+        | Does::Models
+        | Does::BranchesIf
+        | Does::Branches
+        | Does::Counts
+        | Does::Sets(_) => false,
     }
-    does == 0
 }
 
 // Whether a line that does this ends its macro.
-pub fn does_end(does: u8) -> bool
-    ensures { (d : Does ℕ) → does ≡ does_number d → result ≡ does_end d }
+pub fn does_end(does: Does) -> bool
+    ensures { (d : Doing ℕ) → does ≡ does_for d → result ≡ does_end d }
 {
-    does == 1
+    matches!(does, Does::Ends)
 }
 
 // Whether a line that does this is ACTR.
-pub fn does_count(does: u8) -> bool
-    ensures { (d : Does ℕ) → does ≡ does_number d → result ≡ does_count d }
+pub fn does_count(does: Does) -> bool
+    ensures { (d : Doing ℕ) → does ≡ does_for d → result ≡ does_count d }
 {
-    does == 7
+    matches!(does, Does::Counts)
 }

@@ -1,9 +1,9 @@
 -- Reading moves forward, so a chain of operands goes on as its loop in the code does. Assumes nothing.
-use mathlib.Core.Path.{◌≡◌, refl, sym, ◌∙◌}
+use mathlib.Core.Path.{◌≡◌, refl, sym, ap, ◌∙◌, subst}
 use mathlib.Core.Bool.{Bool, true, false, true≢false}
 use mathlib.Core.List.{List, [], ◌∷◌}
 use mathlib.Core.Option.{some}
-use Prim.Native.Nat.{ℕ, zero, suc, ◌<◌, ◌≤◌}
+use Prim.Native.Nat.{ℕ, zero, suc, ◌+◌, ◌<◌, ◌≤◌}
 use native.Mathlib.Omega.{arith}
 use native.Mathlib.Nat.{le_refl}
 use lib.ListN.{length, drop}
@@ -11,9 +11,14 @@ use Rattle.text.specs.Bytes.{Bytes}
 use Rattle.rules.specs.Lexemes.{Lex}
 use Rattle.rules.specs.Grammar.{Kind, Got, got, refused, then, given, goes_on, turn, chain}
 use Rattle.rules.specs.Form.{Nothing}
-use Rattle.grammar.specs.declared.Formed.{Formed}
-use Rattle.grammar.specs.Tokens.{toks_at, tells}
-use Rattle.grammar.specs.Operands.{goes_by, Next}
+use Rattle.std.specs.Prelude.{Option, Some, None, Ok, Err}
+use Rattle.std.specs.Result.{IsErrAnd}
+use Rattle.rules.specs.Choice.{choose}
+use Rattle.grammar.specs.declared.Fault.{Fault}
+use Rattle.grammar.specs.declared.Fault.TheVariants.{Broken, Deep}
+use Rattle.grammar.specs.Tokens.{toks_at, Formed, tells}
+use Rattle.grammar.proofs.Places.{toks-drop}
+use Rattle.grammar.proofs.Answers.{same-fault, found, found-at, ended}
 use Rattle.grammar.proofs.While.{Falls, while-less, Going, going-ends, going_less, going_on}
 
 -- what is left to read, one more where there is a value
@@ -56,11 +61,6 @@ module _ {goes : List (Lex Kind) → Bool} {skip : ℕ} {operand : List (Lex Kin
   abbrev pub chained : List (Lex Kind) → Got Nothing Kind
   chained = chain goes (drop skip) operand (λ y v w. some tt)
 
-  on-is : (s : Got Nothing Kind) → on s ≡ goes_by goes s
-  unfolding goes_on goes_by
-  on-is (got v x) = refl
-  on-is (refused e n) = refl
-
   step_is : (s : Got Nothing Kind) → step s ≡ then s (λ v x. operand (drop skip x))
   unfolding turn then given
   step_is (got v x) = then_same (operand (drop skip x))
@@ -93,31 +93,52 @@ module _ {goes : List (Lex Kind) → Bool} {skip : ℕ} {operand : List (Lex Kin
       let all = while-less falling (length x) (operand x) in
       omega arith
 
-  -- the loop of the code over a field: what it has so far comes to the whole of the chain
+  -- the loop of the code over a field: the place that it has come to leads to the whole of the chain
   module _ (kinds code : Bytes) where
-    abbrev pub Loop : ℕ → Formed → Type 0
-    Loop at so_far = Going falling (length (toks_at kinds code at)) (chained (toks_at kinds code at)) (tells (toks_at kinds code) so_far)
+    abbrev pub Loop : ℕ → ℕ → Type 0
+    Loop at here = Going falling (length (toks_at kinds code at)) (chained (toks_at kinds code at)) (got tt (toks_at kinds code here))
 
-    abbrev pub to_read : Formed → ℕ
-    to_read so_far = left (tells (toks_at kinds code) so_far)
+    abbrev pub to_read : ℕ → ℕ
+    to_read here = suc (length (toks_at kinds code here))
 
-    pub loop-starts : (at : ℕ) (so_far : Formed) → tells (toks_at kinds code) so_far ≡ operand (toks_at kinds code at) → Loop at so_far
-    unfolding chain
-    loop-starts at so_far e = record { short = rw e (k.forward (toks_at kinds code at)); goes = rw e }
+    off : (e : Fault) → on (tells (toks_at kinds code) (Err e)) ≡ false
+    unfolding tells goes_on
+    off (Broken n) = refl
+    off (Deep n) = refl
 
-    module _ (at : ℕ) (so_far : Formed) (inv : Loop at so_far) {r : ℕ} (next : Next goes skip (toks_at kinds code) (tells (toks_at kinds code) so_far) r) where
-      pub loop-ends : r ≡ 0 → tells (toks_at kinds code) so_far ≡ chained (toks_at kinds code at)
-      loop-ends z = going-ends falling inv (on-is (tells (toks_at kinds code) so_far) ∙ next.ends z)
+    module _ (at : ℕ) (r : Formed) (read : tells (toks_at kinds code) r ≡ operand (toks_at kinds code at)) where
+      starts : Going falling (length (toks_at kinds code at)) (chained (toks_at kinds code at)) (tells (toks_at kinds code) r)
+      unfolding chain
+      starts = record { short = rw read (k.forward (toks_at kinds code at)); goes = rw read }
 
-      module _ (z : r ≡ 0 → ⊥) (so-far' : Formed) (read : tells (toks_at kinds code) so-far' ≡ operand (toks_at kinds code r)) where
-        goes-on : on (tells (toks_at kinds code) so_far) ≡ true
-        goes-on = on-is (tells (toks_at kinds code) so_far) ∙ next.goes-on z
+      pub loop-starts : {here : ℕ} → r ≡ Ok here → Loop at here
+      unfolding tells
+      loop-starts e = subst (λ (q : Formed). Going falling (length (toks_at kinds code at)) (chained (toks_at kinds code at)) (tells (toks_at kinds code) q)) e starts
 
-        turned : tells (toks_at kinds code) so-far' ≡ step (tells (toks_at kinds code) so_far)
-        turned = read ∙ sym (step_is (tells (toks_at kinds code) so_far) ∙ next.next z operand)
+      pub loop-none : {e : Fault} → r ≡ Err e → (s : Formed) → IsErrAnd s (λ d. d ≡ e) → tells (toks_at kinds code) s ≡ chained (toks_at kinds code at)
+      loop-none {e} is s out = ap (tells (toks_at kinds code)) (same-fault s out) ∙ going-ends falling (subst (λ (q : Formed). Going falling (length (toks_at kinds code at)) (chained (toks_at kinds code at)) (tells (toks_at kinds code) q)) is starts) (off e)
 
-        pub loop-less : to_read so-far' < to_read so_far
-        loop-less = going_less falling inv goes-on turned
+    module _ (at here : ℕ) (inv : Loop at here) {o : Option ℕ} (next : o ≡ choose (goes (toks_at kinds code here)) (Some (here + skip)) None) where
+      pub loop-ends : o ≡ None → tells (toks_at kinds code) (Ok here) ≡ chained (toks_at kinds code at)
+      unfolding tells goes_on
+      loop-ends z = going-ends falling inv (ended _ _ next z)
 
-        pub loop-again : Loop at so-far'
-        loop-again = going_on falling inv goes-on turned
+      module _ {n : ℕ} (z : o ≡ Some n) (r : Formed) (read : tells (toks_at kinds code) r ≡ operand (toks_at kinds code n)) where
+        goes-on : on (got tt (toks_at kinds code here)) ≡ true
+        unfolding goes_on
+        goes-on = found _ _ next z
+
+        turned : tells (toks_at kinds code) r ≡ step (got tt (toks_at kinds code here))
+        unfolding then
+        turned = read ∙ ap (λ m. operand (toks_at kinds code m)) (found-at _ _ next z) ∙ ap operand (sym (toks-drop kinds code here skip)) ∙ sym (step_is (got tt (toks_at kinds code here)))
+
+        pub loop-less : {there : ℕ} → r ≡ Ok there → to_read there < to_read here
+        unfolding tells left
+        loop-less e = going_less falling inv goes-on (ap (tells (toks_at kinds code)) (sym e) ∙ turned)
+
+        pub loop-again : {there : ℕ} → r ≡ Ok there → Loop at there
+        unfolding tells
+        loop-again e = going_on falling inv goes-on (ap (tells (toks_at kinds code)) (sym e) ∙ turned)
+
+        pub loop-fails : {e : Fault} → r ≡ Err e → (s : Formed) → IsErrAnd s (λ d. d ≡ e) → tells (toks_at kinds code) s ≡ chained (toks_at kinds code at)
+        loop-fails {e} is s out = ap (tells (toks_at kinds code)) (same-fault s out) ∙ going-ends falling (going_on falling inv goes-on (ap (tells (toks_at kinds code)) (sym is) ∙ turned)) (off e)

@@ -5,6 +5,7 @@ use native.Mathlib.Numerals.{add-one}
 use mathlib.Core.Path.{◌≡◌, refl, ap, sym, ◌∙◌, subst}
 use mathlib.Core.Bool.{Bool, true, false, not, true≢false}
 use mathlib.Core.List.{List, [], ◌∷◌, map}
+use Rattle.std.specs.Prelude.{Option, Some, None}
 use lib.Dec.{eqb, leb, ltb}
 use lib.ListN.{length, drop, get_or, get_or-eq_default, drop_of_length-le}
 use lib.Seq.{drop-cons, drop-drop}
@@ -16,7 +17,19 @@ use Rattle.rules.specs.Fields.{is_empty}
 use Rattle.rules.specs.Grammar.{Kind, plain, starts_mark, rest, is_attribute}
 use Rattle.rules.proofs.Choices.{by, either, and_right}
 use Rattle.grammar.specs.Tokens.{kind_of, lex_of, toks_at}
-use Rattle.grammar.specs.Kinds.{number_of, lex_number, kind_number}
+use Rattle.kinds.specs.declared.Kind.{Kind as Kept}
+use Rattle.kinds.specs.declared.Kind.TheVariants.{Unknown}
+use Rattle.kinds.specs.Kinds.{kind_for}
+use Rattle.kinds.specs.Kinds.{kind_of as meant}
+use Rattle.kinds.proofs.Back.{kind-back}
+use Rattle.grammar.specs.Kinds.{kind_shown, kind_first}
+
+abbrev is_some : Option Kept → Bool
+is_some (Some k) = true
+is_some None = false
+
+pub Some≢None : {k : Kept} → Some k ≡ None → ⊥
+Some≢None e = true≢false (ap is_some e)
 
 module _ (kinds code : Bytes) where
   pub toks-drop : (at n : ℕ) → drop n (toks_at kinds code at) ≡ toks_at kinds code (at + n)
@@ -84,9 +97,9 @@ module _ (kinds code : Bytes) where
       first (ref r) x = refl
       first lone x = refl
 
-  kind-seen : (at : ℕ) → kind_number (toks_at kinds code at) ≡ lex_number (lex_of kinds (get_or code at 0))
-  unfolding kind_number lex_number
-  kind-seen at = seen kind_number lex_number refl (λ y x. refl) at
+  pub kind-seen : (at : ℕ) → kind_first (toks_at kinds code at) ≡ kind_shown (lex_of kinds (get_or code at 0))
+  unfolding kind_first kind_shown
+  kind-seen at = seen kind_first kind_shown refl (λ y x. refl) at
 
   -- the coding, by the byte
   lex-text : (b : ℕ) → b < 127 → lex_of kinds b ≡ byte b
@@ -122,43 +135,6 @@ module _ (kinds code : Bytes) where
       is b = either (P b) (ltb b 127) (λ e. let less = ltb-true b 127 e in sym (ne_eqb b 127 (λ e. omega arith)))
           λ e. either (P b) (eqb b 127) sym λ f. either (P b) (ltb b 224) (λ e. sym f) λ e. either (P b) (eqb b 224) (λ e. sym f) λ e. either (P b) (eqb b 225) (λ e. sym f) λ e. either (P b) (eqb b 226) (λ e. sym f) λ e. sym f
 
-  -- kinds, by the byte
-  pub kind-text : (at : ℕ) → get_or code at 0 < 128 → 255 ≡ kind_number (toks_at kinds code at)
-  unfolding lex_of choose lex_number
-  kind-text at h = sym (kind-seen at ∙ is (get_or code at 0) h)
-    where
-      is : (b : ℕ) → b < 128 → lex_number (lex_of kinds b) ≡ 255
-      is b h = either (λ y. lex_number y ≡ 255) (ltb b 127) (λ e. refl)
-          λ e. let over = ltb-false b 127 e in let same : b ≡ 127 = omega arith in either (λ y. lex_number y ≡ 255) (eqb b 127) (λ e. refl) λ f. absurd (eqb-false b 127 f same)
-
-  pub kind-slot : (at : ℕ) → 128 ≤ get_or code at 0 → get_or code at 0 < 224 → number_of (kind_of (get_or kinds (get_or code at 0 - 128) 4)) ≡ kind_number (toks_at kinds code at)
-  unfolding lex_number
-  kind-slot at h k = sym (kind-seen at ∙ ap lex_number (lex-slot (get_or code at 0) h k))
-
-  pub kind-system : (at : ℕ) → 224 ≤ get_or code at 0 → get_or code at 0 < 227 → get_or code at 0 - 219 ≡ kind_number (toks_at kinds code at)
-  unfolding lex_of choose lex_number number_of
-  kind-system at h k = sym (kind-seen at ∙ is (get_or code at 0) h k)
-    where
-      at-226 : (b : ℕ) → 224 ≤ b → b < 227 → eqb b 224 ≡ false → eqb b 225 ≡ false → b ≡ 226
-      at-226 b h k e f = let x = eqb-false b 224 e in let y = eqb-false b 225 f in omega arith
-
-      is : (b : ℕ) → 224 ≤ b → b < 227 → lex_number (lex_of kinds b) ≡ b - 219
-      is b h k = by (eqb b 224) (λ e. rw (eqb-true b 224 e)) λ e. by (eqb b 225) (λ f. rw (eqb-true b 225 f)) λ f. rw (at-226 b h k e f)
-
-  pub kind-lone : (at : ℕ) → 227 ≤ get_or code at 0 → 255 ≡ kind_number (toks_at kinds code at)
-  unfolding lex_of choose lex_number
-  kind-lone at h = sym (kind-seen at ∙ is (get_or code at 0) h)
-    where
-      is : (b : ℕ) → 227 ≤ b → lex_number (lex_of kinds b) ≡ 255
-      is b h =
-          let a : 127 ≤ b = omega arith in
-          let d : 224 ≤ b = omega arith in
-          let m : b ≡ 127 → ⊥ = λ e. omega arith in
-          let n : b ≡ 224 → ⊥ = λ e. omega arith in
-          let o : b ≡ 225 → ⊥ = λ e. omega arith in
-          let p : b ≡ 226 → ⊥ = λ e. omega arith in
-          rw (le-ltb b 127 a, ne_eqb b 127 m, le-ltb b 224 d, ne_eqb b 224 n, ne_eqb b 225 o, ne_eqb b 226 p)
-
   -- what stands at a place, by its byte: a text byte or a mark, a variable symbol, an ampersand left over
   module _ (P : List (Lex Kind) → Type 0) (at : ℕ) (inside : at < length code) where
     abbrev Q : Lex Kind → Type 0
@@ -169,7 +145,7 @@ module _ (kinds code : Bytes) where
     text-lex h p q = subst P (sym (toks-step at inside)) (either Q (ltb (get_or code at 0) 127) (λ e. p _)
         λ e. either Q (eqb (get_or code at 0) 127) (λ f. q) λ f. let over = ltb-false (get_or code at 0) 127 e in let other = eqb-false (get_or code at 0) 127 f in absurd (omega arith))
 
-    pub ref-lex : 128 ≤ get_or code at 0 → get_or code at 0 ≤ 226 → ((k : Kind) → Q (ref k)) → P (toks_at kinds code at)
+    ref-lex : 128 ≤ get_or code at 0 → get_or code at 0 ≤ 226 → ((k : Kind) → Q (ref k)) → P (toks_at kinds code at)
     unfolding lex_of
     ref-lex h k p = subst P (sym (toks-step at inside)) (either Q (ltb (get_or code at 0) 127) (λ e. let less = ltb-true (get_or code at 0) 127 e in absurd (omega arith))
         λ e. either Q (eqb (get_or code at 0) 127) (λ f. let same = eqb-true (get_or code at 0) 127 f in absurd (omega arith))
@@ -177,12 +153,15 @@ module _ (kinds code : Bytes) where
         λ j. either Q (eqb (get_or code at 0) 226) (λ l. p _)
         λ l. let a = ltb-false (get_or code at 0) 224 g in let b = eqb-false (get_or code at 0) 224 i in let d = eqb-false (get_or code at 0) 225 j in let m = eqb-false (get_or code at 0) 226 l in absurd (omega arith))
 
-    pub lone-lex : 226 < get_or code at 0 → Q lone → P (toks_at kinds code at)
+    lone-lex : 226 < get_or code at 0 → Q lone → P (toks_at kinds code at)
     unfolding lex_of
     lone-lex h p = subst P (sym (toks-step at inside)) (either Q (ltb (get_or code at 0) 127) (λ e. let less = ltb-true (get_or code at 0) 127 e in absurd (omega arith))
         λ e. either Q (eqb (get_or code at 0) 127) (λ f. let same = eqb-true (get_or code at 0) 127 f in absurd (omega arith))
         λ f. either Q (ltb (get_or code at 0) 224) (λ g. let less = ltb-true (get_or code at 0) 224 g in absurd (omega arith)) λ g. either Q (eqb (get_or code at 0) 224) (λ i. let same = eqb-true (get_or code at 0) 224 i in absurd (omega arith))
         λ i. either Q (eqb (get_or code at 0) 225) (λ j. let same = eqb-true (get_or code at 0) 225 j in absurd (omega arith)) λ j. either Q (eqb (get_or code at 0) 226) (λ l. let same = eqb-true (get_or code at 0) 226 l in absurd (omega arith)) λ l. p)
+
+    pub other-lex : 128 ≤ get_or code at 0 → ((k : Kind) → Q (ref k)) → Q lone → P (toks_at kinds code at)
+    other-lex h p q = by (leb (get_or code at 0) 226) (λ e. ref-lex h (leb-true (get_or code at 0) 226 e) p) (λ e. lone-lex (leb-false (get_or code at 0) 226 e) q)
 
   -- a byte of text that is not 0
   module _ (at c : ℕ) (read : c ≡ plain (toks_at kinds code at)) (some : 0 < c) where
@@ -209,41 +188,26 @@ module _ (kinds code : Bytes) where
       go (y ∷ x) e h = within (at + 1) e
 
   -- a variable symbol
-  pub record RefAt (at n : ℕ) : Type 0 where
-    pub kind : Kind
-    pub number : n ≡ number_of kind
-    pub step : toks_at kinds code at ≡ ref kind ∷ toks_at kinds code (at + 1)
+  pub record RefAt (at : ℕ) (k : Kept) : Type 0 where
+    pub step : toks_at kinds code at ≡ ref (meant k) ∷ toks_at kinds code (at + 1)
     pub inside : at < length code
 
-  pub ref-step : (at n : ℕ) → n ≡ kind_number (toks_at kinds code at) → (n ≡ 255 → ⊥) → RefAt at n
-  unfolding kind_number lex_number
-  ref-step at n read some = go (toks_at kinds code at) refl
+  abbrev kind_in : Option Kept → Kept
+  kind_in (Some k) = k
+  kind_in None = Unknown
+
+  pub ref-step : (at : ℕ) {k : Kept} {shown : Option Kept} → shown ≡ kind_first (toks_at kinds code at) → shown ≡ Some k → RefAt at k
+  unfolding kind_first kind_shown
+  ref-step at {k} {shown} read is = go (toks_at kinds code at) refl
     where
-      go : (x : List (Lex Kind)) → toks_at kinds code at ≡ x → RefAt at n
-      go [] e = absurd (some (read ∙ ap kind_number e))
-      go (byte d ∷ x) e = absurd (some (read ∙ ap kind_number e))
-      go (mark ∷ x) e = absurd (some (read ∙ ap kind_number e))
-      go (ref k ∷ x) e = record { kind = k; number = read ∙ ap kind_number e; step = goes-past at e; inside = within at e }
-      go (lone ∷ x) e = absurd (some (read ∙ ap kind_number e))
+      none : {x : List (Lex Kind)} → toks_at kinds code at ≡ x → kind_first x ≡ None → RefAt at k
+      none e f = absurd (Some≢None (sym is ∙ read ∙ ap kind_first e ∙ f))
 
--- the kind of a slot, as a number
-pub slot-known : (n : ℕ) → n < 4 → n ≡ number_of (kind_of n)
-unfolding number_of kind_of choose
-slot-known n h = by (eqb n 0) (λ e. rw (eqb-true n 0 e)) λ e. by (eqb n 1) (λ e. rw (eqb-true n 1 e)) λ f. by (eqb n 2) (λ e. rw (eqb-true n 2 e)) λ g. rw (three e f g)
-  where
-    three : eqb n 0 ≡ false → eqb n 1 ≡ false → eqb n 2 ≡ false → n ≡ 3
-    three e f g = let x = eqb-false n 0 e in let y = eqb-false n 1 f in let z = eqb-false n 2 g in omega arith
-
-pub slot-unknown : (n : ℕ) → 4 ≤ n → 4 ≡ number_of (kind_of n)
-unfolding number_of kind_of choose
-slot-unknown n h =
-    let m : n ≡ 0 → ⊥ = λ e. omega arith in
-    let o : n ≡ 1 → ⊥ = λ e. omega arith in
-    let p : n ≡ 2 → ⊥ = λ e. omega arith in
-    let q : n ≡ 3 → ⊥ = λ e. omega arith in
-    rw (ne_eqb n 0 m, ne_eqb n 1 o, ne_eqb n 2 p, ne_eqb n 3 q)
-
-pub read-any : (l : Bytes) (i d e : ℕ) → i < length l → get_or l i d ≡ get_or l i e
-read-any [] i d e h = absurd (omega arith)
-read-any (b ∷ l) zero d e h = refl
-read-any (b ∷ l) (suc i) d e h = read-any l i d e (omega arith)
+      go : (x : List (Lex Kind)) → toks_at kinds code at ≡ x → RefAt at k
+      go [] e = none e refl
+      go (byte d ∷ x) e = none e refl
+      go (mark ∷ x) e = none e refl
+      go (ref j ∷ x) e =
+          let same : k ≡ kind_for j = ap kind_in (sym is ∙ read ∙ ap kind_first e) in
+          record { step = goes-past at e ∙ ap (λ i. ref i ∷ toks_at kinds code (at + 1)) (sym (ap meant same ∙ kind-back j)); inside = within at e }
+      go (lone ∷ x) e = none e refl

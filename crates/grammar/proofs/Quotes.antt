@@ -8,20 +8,21 @@ use native.Mathlib.Omega.{arith}
 use native.Mathlib.Nat.{le_refl, le_trans}
 use lib.Dec.{eqb, lit<}
 use lib.ListN.{length, drop}
-use borrow.Author.Tests.{eq-eqb, ne_eqb, eqb-true}
+use borrow.Author.Tests.{ne_eqb, eqb-true}
 use Rattle.text.specs.Bytes.{Bytes}
 use Rattle.rules.specs.Choice.{choose}
 use Rattle.rules.specs.Lexemes.{Lex, opening, comma, period, apostrophe}
 use Rattle.rules.specs.Fields.{is_empty}
 use Rattle.rules.specs.Grammar.{Kind, Got, got, refused, plain, rest, is_attribute, then, broken, given, closed, referred, piece, is_doubled, add_quoted, goes_on_quoted, quoted_text, substringed, string, characters, deeper, string_within}
 use Rattle.rules.specs.Form.{Nothing, form}
-use Rattle.rules.proofs.Choices.{either, chosen, passed_over, and_right}
-use Rattle.grammar.specs.declared.Formed.{Formed}
-use Rattle.grammar.specs.declared.Formed.TheVariants.{At, Broken, Deep}
+use Rattle.rules.proofs.Choices.{by, either, chosen, passed_over, and_right}
+use Rattle.std.specs.Prelude.{Option, Some, None, Ok}
 use Rattle.grammar.specs.Tokens.{toks_at, tells}
-use Rattle.grammar.specs.Kinds.{table_of}
-use Rattle.grammar.specs.Operands.{goes_by, quote_goes, quoted_run, unquoted_by, strings_by}
+use Rattle.kinds.specs.declared.Stand.TheVariants.{AfterT}
+use Rattle.kinds.specs.Kinds.{table_of}
+use Rattle.grammar.specs.Operands.{expected, quote_goes, quoted_run, strings_by}
 use Rattle.grammar.proofs.Places.{toks-drop, toks-rest, text-inside}
+use Rattle.grammar.proofs.Answers.{found, found-at, ended}
 use Rattle.grammar.proofs.Chains.{left, left-then, Forward, drop-less, then_same, Chained, chained}
 use Rattle.grammar.proofs.Rules.{Few, got-left, broken-left, left-closed, left-opened, up, forward-deeper}
 use Rattle.grammar.proofs.Texts.{Scan, scanned, left-scanned, add-got, forward-piece}
@@ -39,44 +40,41 @@ module _ (inner : List (Lex Kind) → Got Nothing Kind) (x : List (Lex Kind)) {c
   unfolding quote_goes
   quote-is f g = rw (f, g, read)
 
-  pub string-none : (c ≡ 39 → ⊥) → broken x ≡ string form inner x
-  unfolding string
-  string-none h = sym (passed_over _ _ (rw (← read) (ne_eqb c 39 h)))
+-- a quoted string, step by step: the quote that opens it, its text, the quote that closes it, a start and a count
+module _ (inner : List (Lex Kind) → Got Nothing Kind) (x : List (Lex Kind)) where
+  abbrev pub closing_by : Nothing → List (Lex Kind) → Got Nothing Kind
+  closing_by v y = then (expected apostrophe y) (substringed form inner x)
 
-  pub string-is : c ≡ 39 → then (then (quoted_run inner (rest x)) unquoted_by) (substringed form inner x) ≡ string form inner x
-  unfolding string quoted_text quoted_run unquoted_by form
-  string-is h = sym (chosen _ _ (rw (← read) (eq-eqb c 39 h)))
+  abbrev pub text_by : Nothing → List (Lex Kind) → Got Nothing Kind
+  text_by v y = then (quoted_run inner y) closing_by
+
+  text-is : (y : List (Lex Kind)) → then (then (quoted_run inner y) (λ v z. expected apostrophe z)) (substringed form inner x) ≡ text_by tt y
+  unfolding then
+  text-is y = go (quoted_run inner y)
+    where
+      go : (r : Got Nothing Kind) → then (then r (λ v z. expected apostrophe z)) (substringed form inner x) ≡ then r closing_by
+      go (got v z) = refl
+      go (refused e n) = refl
+
+  pub string-is : then (expected apostrophe x) text_by ≡ string form inner x
+  unfolding string quoted_text quoted_run expected then broken form
+  string-is = by (eqb (plain x) apostrophe)
+      (λ e. ap (λ r. then r text_by) (chosen _ _ e) ∙ sym (text-is (rest x)) ∙ sym (chosen _ _ e))
+      (λ e. ap (λ r. then r text_by) (passed_over _ _ e) ∙ sym (passed_over _ _ e))
 
 module _ (kinds code : Bytes) (inner : List (Lex Kind) → Got Nothing Kind) where
   pub doubled-inside : (at : ℕ) → is_doubled form inner (toks_at kinds code at) ≡ true → at + 1 < length code
   unfolding is_doubled
   doubled-inside at h = text-inside kinds code (at + 1) 39 (sym (ap plain (sym (toks-rest kinds code at)) ∙ eqb-true _ 39 (and_right (eqb (plain (toks_at kinds code at)) 39) (eqb (plain (rest (toks_at kinds code at))) 39) h))) (lit< tt)
 
-  module _ {so_far : Formed} {n : ℕ} where
-    pub quoted-two : so_far ≡ At n → is_doubled form inner (toks_at kinds code n) ≡ true → tells (toks_at kinds code) (At (n + 2)) ≡ add_quoted form inner (tells (toks_at kinds code) so_far)
+  module _ (at : ℕ) {b : Bool} (is : b ≡ is_doubled form inner (toks_at kinds code at)) where
+    pub quoted-two : b ≡ true → tells (toks_at kinds code) (Ok (at + 2)) ≡ add_quoted form inner (got tt (toks_at kinds code at))
     unfolding tells add_quoted form
-    quoted-two e d = rw e (ap (got tt) (sym (toks-drop kinds code n 2)) ∙ sym (chosen _ _ d))
+    quoted-two e = ap (got tt) (sym (toks-drop kinds code at 2)) ∙ sym (chosen _ _ (sym is ∙ e))
 
-    pub quoted-piece : so_far ≡ At n → is_doubled form inner (toks_at kinds code n) ≡ false → piece form inner (toks_at kinds code n) ≡ add_quoted form inner (tells (toks_at kinds code) so_far)
-    unfolding tells add_quoted
-    quoted-piece e d = rw e (add-got inner (toks_at kinds code n) ∙ sym (passed_over _ _ d))
-
-    pub quoted-broken : so_far ≡ Broken n → tells (toks_at kinds code) (Broken n) ≡ add_quoted form inner (tells (toks_at kinds code) so_far)
-    unfolding tells add_quoted
-    quoted-broken e = rw e
-
-    pub quoted-deep : so_far ≡ Deep n → tells (toks_at kinds code) (Deep n) ≡ add_quoted form inner (tells (toks_at kinds code) so_far)
-    unfolding tells add_quoted
-    quoted-deep e = rw e
-
-module _ (kinds code : Bytes) (at : ℕ) {c : ℕ} (read : c ≡ plain (toks_at kinds code at)) where
-  pub quote-closes : c ≡ 39 → tells (toks_at kinds code) (At (at + 1)) ≡ unquoted_by tt (toks_at kinds code at)
-  unfolding tells unquoted_by
-  quote-closes h = ap (got tt) (sym (toks-rest kinds code at)) ∙ sym (chosen _ _ (rw (← read) (eq-eqb c 39 h)))
-
-  pub quote-open : (c ≡ 39 → ⊥) → tells (toks_at kinds code) (Broken at) ≡ unquoted_by tt (toks_at kinds code at)
-  unfolding tells unquoted_by broken
-  quote-open h = sym (passed_over _ _ (rw (← read) (ne_eqb c 39 h)))
+    pub quoted-one : b ≡ false → piece form inner (toks_at kinds code at) ≡ add_quoted form inner (got tt (toks_at kinds code at))
+    unfolding add_quoted
+    quoted-one e = add-got inner (toks_at kinds code at) ∙ sym (passed_over _ _ (sym is ∙ e))
 
 -- ---- start and count
 
@@ -84,36 +82,41 @@ module _ (inner : List (Lex Kind) → Got Nothing Kind) where
   abbrev pub counted : Nothing → List (Lex Kind) → Got Nothing Kind
   counted v y = choose (eqb (plain y) comma) (then (inner (rest y)) λ n z. then (closed n z) λ m w. got tt w) (broken y)
 
-  module _ (here : List (Lex Kind)) where
-    pub part_none : (s : Got Nothing Kind) → goes_by (λ x. eqb (plain x) 40) s ≡ false → s ≡ then s (substringed form inner here)
-    unfolding goes_by then substringed
-    part_none (got v x) e = sym (passed_over _ _ e)
-    part_none (refused f l) e = refl
-
-    pub part-opens : (s : Got Nothing Kind) → goes_by (λ x. eqb (plain x) 40) s ≡ true → then s (λ v x. then (inner (drop 1 x)) counted) ≡ then s (substringed form inner here)
-    unfolding goes_by then substringed given form rest
-    part-opens (got v x) e = sym (chosen _ _ e)
-    part-opens (refused f l) e = refl
-
-  pub count_none : (s : Got Nothing Kind) → goes_by (λ x. eqb (plain x) 44) s ≡ false → then s (λ v x. broken x) ≡ then s counted
-  unfolding goes_by then
-  count_none (got v x) e = sym (passed_over _ _ e)
-  count_none (refused f l) e = refl
-
   closes-same : (g : Got Nothing Kind) → then g closed ≡ then g (λ n z. then (closed n z) λ m w. got tt w)
   unfolding then
   closes-same (got v x) = sym (then_same (closed v x))
   closes-same (refused e l) = refl
 
-  pub count-two : (s : Got Nothing Kind) → goes_by (λ x. eqb (plain x) 44) s ≡ true → then s (λ v x. then (inner (drop 1 x)) closed) ≡ then s counted
-  unfolding goes_by then rest
-  count-two (got v x) e = closes-same (inner (drop 1 x)) ∙ sym (chosen _ _ e)
-  count-two (refused f l) e = refl
+  -- the comma, the count and the parenthesis that closes
+  abbrev pub count_by : Nothing → List (Lex Kind) → Got Nothing Kind
+  count_by v z = then (inner z) closed
 
-  pub goes-quoted : (s : Got Nothing Kind) → goes_by (quote_goes inner) s ≡ goes_on_quoted form inner s
-  unfolding goes_by goes_on_quoted quote_goes
-  goes-quoted (got v x) = refl
-  goes-quoted (refused e n) = refl
+  abbrev pub comma_by : Nothing → List (Lex Kind) → Got Nothing Kind
+  comma_by v y = then (expected 44 y) count_by
+
+  counted-is : (v : Nothing) (y : List (Lex Kind)) → comma_by v y ≡ counted v y
+  unfolding expected then broken
+  counted-is v y = by (eqb (plain y) comma)
+      (λ e. ap (λ r. then r count_by) (chosen _ _ e) ∙ closes-same (inner (rest y)) ∙ sym (chosen _ _ e))
+      (λ e. ap (λ r. then r count_by) (passed_over _ _ e) ∙ sym (passed_over _ _ e))
+
+  count-same : (g : Got Nothing Kind) → then g comma_by ≡ then g counted
+  unfolding then
+  count-same (got v x) = counted-is v x
+  count-same (refused e l) = refl
+
+  module _ (kinds code : Bytes) (at : ℕ) {o : Option ℕ} (is : o ≡ choose (eqb (plain (toks_at kinds code at)) 40) (Some (at + 1)) None) (here : List (Lex Kind)) where
+    pub part-none : o ≡ None → got tt (toks_at kinds code at) ≡ substringed form inner here tt (toks_at kinds code at)
+    unfolding substringed
+    part-none e = sym (passed_over _ _ (ended _ _ is e))
+
+    pub part-opens : {n : ℕ} → o ≡ Some n → then (inner (toks_at kinds code n)) comma_by ≡ substringed form inner here tt (toks_at kinds code at)
+    unfolding substringed given form
+    part-opens e = ap (λ m. then (inner (toks_at kinds code m)) comma_by) (found-at _ _ is e) ∙ ap (λ x. then (inner x) comma_by) (sym (toks-rest kinds code at)) ∙ count-same (inner (rest (toks_at kinds code at))) ∙ sym (chosen _ _ (found _ _ is e))
+
+  pub goes-quoted : (x : List (Lex Kind)) → quote_goes inner x ≡ goes_on_quoted form inner (got tt x)
+  unfolding goes_on_quoted quote_goes
+  goes-quoted x = refl
 
   -- ---- strings move forward
 
@@ -132,9 +135,9 @@ module _ (inner : List (Lex Kind) → Got Nothing Kind) where
     unfolding goes_on_quoted
     quotes = record { some_left = quote-filled; stops = λ e n. refl; moves = λ v x e. quote-moves v x (quote-filled v x e) }
 
-    left-unquoted : (v : Nothing) (x : List (Lex Kind)) → left (unquoted_by v x) ≤ suc (length x)
-    unfolding unquoted_by rest
-    left-unquoted v x = either (Few _ (suc (length x))) (eqb (plain x) apostrophe) (λ e. let less = drop-less 1 x in got-left tt (drop 1 x) (suc (length x)) (omega arith)) (λ e. broken-left _ x _)
+    left-expected : (v : Nothing) (x : List (Lex Kind)) → left (expected apostrophe x) ≤ suc (length x)
+    unfolding expected rest
+    left-expected v x = either (Few _ (suc (length x))) (eqb (plain x) apostrophe) (λ e. let less = drop-less 1 x in got-left tt (drop 1 x) (suc (length x)) (omega arith)) (λ e. broken-left _ x _)
 
     abbrev closing-count : Nothing → List (Lex Kind) → Got Nothing Kind
     closing-count n z = then (closed n z) λ m w. got tt w
@@ -150,8 +153,8 @@ module _ (inner : List (Lex Kind) → Got Nothing Kind) where
     left-substringed here v x = either (Few _ (suc (length x))) (eqb (plain x) opening) (λ e. le_trans (left-opened inner forward counted left-counted x) (up (length x))) (λ e. got-left _ x _ (le_refl _))
 
     left-quoted : (x : List (Lex Kind)) → left (quoted_text form inner x) ≤ suc (length x)
-    unfolding quoted_text quoted_run unquoted_by form
-    left-quoted x = le_trans (left-then (quoted_run inner x) unquoted_by left-unquoted) (left-scanned quotes x)
+    unfolding quoted_text quoted_run expected form
+    left-quoted x = le_trans (left-then (quoted_run inner x) (λ v z. expected apostrophe z) left-expected) (left-scanned quotes x)
 
     forward-string : Forward (string form inner)
     unfolding string plain rest form
@@ -181,8 +184,8 @@ pub strings-of : (nest : ℕ) (x : List (Lex Kind)) → chained (parts-of nest) 
 strings-of nest x = parts_are (deeper form nest) (forward-deeper nest) x
 
 module _ (nest : ℕ) (x : List (Lex Kind)) where
-  pub characters-type : is_attribute 84 x ≡ true → referred form (deeper form nest) (table_of 3) (λ r. some tt) x (drop 2 x) ≡ string_within form nest x
-  unfolding string_within characters table_of choose form
+  pub characters-type : is_attribute 84 x ≡ true → referred form (deeper form nest) (table_of AfterT) (λ r. some tt) x (drop 2 x) ≡ string_within form nest x
+  unfolding string_within characters choose form
   characters-type e = sym (chosen _ _ e)
 
   pub characters-strings : is_attribute 84 x ≡ false → strings_by (deeper form nest) x ≡ string_within form nest x

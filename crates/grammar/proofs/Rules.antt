@@ -1,130 +1,38 @@
 -- The rules of arithmetic as the code goes through them: one law for each case that it tells apart. Assumes nothing.
 use mathlib.Core.Path.{◌≡◌, refl, sym, ap, ◌∙◌, subst}
-use mathlib.Core.Bool.{Bool, true, false, ◌||◌, ◌&&◌, not, true≢false}
+use mathlib.Core.Bool.{Bool, true, false, ◌||◌, true≢false}
 use mathlib.Core.List.{List, [], ◌∷◌, map}
 use mathlib.Core.Option.{some}
-use Prim.Native.Nat.{ℕ, zero, suc, ◌-◌, ◌<◌, ◌≤◌}
+use Rattle.std.specs.Prelude.{Option, Some, None, Err}
+use Prim.Native.Nat.{ℕ, zero, suc, ◌+◌, ◌-◌, ◌<◌, ◌≤◌}
 use native.Mathlib.Omega.{arith}
 use native.Mathlib.Nat.{le_refl, le_trans}
 use native.Mathlib.Numerals.{sub-one}
 use lib.Dec.{eqb, ltb, lit<}
 use lib.ListN.{length, take, drop}
 use borrow.Author.Tests.{eq-eqb, ne_eqb}
-use Rattle.text.specs.Bytes.{bytes, member}
+use Rattle.text.specs.Bytes.{Bytes, bytes, member}
 use Rattle.text.specs.Characters.{digit, letter}
 use Rattle.rules.specs.Choice.{choose, run}
 use Rattle.rules.specs.Lexemes.{Lex, byte, mark, ref, lone, byte_of, comma, opening, closing}
 use Rattle.rules.specs.Fields.{is_empty}
-use Rattle.rules.specs.Statement.{set_a, set_b, set_c}
 use Rattle.rules.specs.Values.{spelt}
-use Rattle.rules.specs.Grammar.{Kind, parameter, symbol, syslist, sysndx, sysect, unknown, Got, got, refused, Reference, plain, rest, is_attribute, then, broken, given, closed, as_term, after_k, after_n, after_t, in_text}
+use Rattle.rules.specs.Grammar.{Kind, parameter, symbol, syslist, sysndx, sysect, unknown, Got, got, refused, Reference, plain, rest, is_attribute, then, broken, given, closed, as_term, after_k, after_n}
 use Rattle.rules.specs.Grammar.{subscripts, reference, referred, decimal_number, term, product, sum, deeper, arithmetic}
 use Rattle.rules.specs.Form.{Nothing, form}
 use Rattle.rules.proofs.Choices.{either, chosen, passed_over}
-use Rattle.grammar.specs.declared.Formed.TheVariants.{Deep}
-use Rattle.grammar.specs.Tokens.{tells}
-use Rattle.grammar.specs.Kinds.{number_of, lex_number, kind_number, table_of}
-use Rattle.grammar.specs.Operands.{goes_by, Next, subscribed}
+use Rattle.grammar.specs.declared.Fault.TheVariants.{Deep}
+use Rattle.grammar.specs.Tokens.{toks_at, tells}
+use Rattle.kinds.specs.declared.Kind.{Kind as Kept}
+use Rattle.kinds.specs.declared.Kind.TheVariants.{Parameter, List as Listed}
+use Rattle.kinds.specs.declared.Stand.TheVariants.{Term, AfterK, AfterN}
+use Rattle.kinds.specs.Kinds.{table_of}
+use Rattle.kinds.specs.Kinds.{kind_of as meant}
+use Rattle.grammar.specs.Kinds.{kind_shown, kind_first}
+use Rattle.grammar.specs.Operands.{subscribed}
+use Rattle.grammar.proofs.Places.{Some≢None, toks-rest}
+use Rattle.grammar.proofs.Answers.{found, found-at, ended}
 use Rattle.grammar.proofs.Chains.{left, left-then, Forward, drop-less, Chained, chained, forward-chain}
-
--- ---- tables
-
-module _ (n : ℕ) (k : Kind) (bare : Bool) (e : n ≡ number_of k) where
-  pub takes-term : ((((eqb n 0 || eqb n 1) || eqb n 3) || eqb n 6) || (eqb n 5 && not bare)) ≡ as_term k bare
-  unfolding number_of as_term
-  takes-term = rw e (go k)
-    where
-      go : (k : Kind) → ((((eqb (number_of k) 0 || eqb (number_of k) 1) || eqb (number_of k) 3) || eqb (number_of k) 6) || (eqb (number_of k) 5 && not bare)) ≡ as_term k bare
-      go parameter = refl
-      go (symbol set_a) = refl
-      go (symbol set_b) = refl
-      go (symbol set_c) = refl
-      go syslist = refl
-      go sysndx = refl
-      go sysect = refl
-      go unknown = refl
-
-  pub takes-K : ((((eqb n 0 || eqb n 3) || eqb n 6) || eqb n 7) || (eqb n 5 && not bare)) ≡ after_k k bare
-  unfolding number_of after_k
-  takes-K = rw e (go k)
-    where
-      go : (k : Kind) → ((((eqb (number_of k) 0 || eqb (number_of k) 3) || eqb (number_of k) 6) || eqb (number_of k) 7) || (eqb (number_of k) 5 && not bare)) ≡ after_k k bare
-      go parameter = refl
-      go (symbol set_a) = refl
-      go (symbol set_b) = refl
-      go (symbol set_c) = refl
-      go syslist = refl
-      go sysndx = refl
-      go sysect = refl
-      go unknown = refl
-
-  pub takes-N : (eqb n 0 || eqb n 5) ≡ after_n k bare
-  unfolding number_of after_n
-  takes-N = rw e (go k)
-    where
-      go : (k : Kind) → (eqb (number_of k) 0 || eqb (number_of k) 5) ≡ after_n k bare
-      go parameter = refl
-      go (symbol set_a) = refl
-      go (symbol set_b) = refl
-      go (symbol set_c) = refl
-      go syslist = refl
-      go sysndx = refl
-      go sysect = refl
-      go unknown = refl
-
-  pub takes-T : (eqb n 0 || (eqb n 5 && not bare)) ≡ after_t k bare
-  unfolding number_of after_t
-  takes-T = rw e (go k)
-    where
-      go : (k : Kind) → (eqb (number_of k) 0 || (eqb (number_of k) 5 && not bare)) ≡ after_t k bare
-      go parameter = refl
-      go (symbol set_a) = refl
-      go (symbol set_b) = refl
-      go (symbol set_c) = refl
-      go syslist = refl
-      go sysndx = refl
-      go sysect = refl
-      go unknown = refl
-
-  pub takes-text : (((ltb n 4 || eqb n 6) || eqb n 7) || (eqb n 5 && not bare)) ≡ in_text k bare
-  unfolding number_of in_text
-  takes-text = rw e (go k)
-    where
-      go : (k : Kind) → (((ltb (number_of k) 4 || eqb (number_of k) 6) || eqb (number_of k) 7) || (eqb (number_of k) 5 && not bare)) ≡ in_text k bare
-      go parameter = refl
-      go (symbol set_a) = refl
-      go (symbol set_b) = refl
-      go (symbol set_c) = refl
-      go syslist = refl
-      go sysndx = refl
-      go sysect = refl
-      go unknown = refl
-
--- ---- one of two operators
-
-module _ (a b : ℕ) (from : ℕ → List (Lex Kind)) (s : Got Nothing Kind) where
-  abbrev pub is_either : List (Lex Kind) → Bool
-  is_either x = member (plain x) (a ∷ b ∷ [])
-
-  pub next-first : {r : ℕ} → Next (λ x. eqb (plain x) a) 1 from s r → (r ≡ 0 → ⊥) → Next is_either 1 from s r
-  unfolding goes_by
-  next-first n z = record { ends = λ e. absurd (z e); goes-on = λ y. go s (n.goes-on y); next = n.next }
-    where
-      go : (s : Got Nothing Kind) → goes_by (λ x. eqb (plain x) a) s ≡ true → goes_by is_either s ≡ true
-      go (got v x) e = rw e
-      go (refused f l) e = e
-
-  pub next-second : {q r : ℕ} → Next (λ x. eqb (plain x) a) 1 from s q → q ≡ 0 → Next (λ x. eqb (plain x) b) 1 from s r → Next is_either 1 from s r
-  unfolding goes_by
-  next-second m y n = record { ends = λ z. ends s (m.ends y) (n.ends z); goes-on = λ z. goes s (m.ends y) (n.goes-on z); next = n.next }
-    where
-      ends : (s : Got Nothing Kind) → goes_by (λ x. eqb (plain x) a) s ≡ false → goes_by (λ x. eqb (plain x) b) s ≡ false → goes_by is_either s ≡ false
-      ends (got v x) e f = rw (e, f)
-      ends (refused g l) e f = e
-
-      goes : (s : Got Nothing Kind) → goes_by (λ x. eqb (plain x) a) s ≡ false → goes_by (λ x. eqb (plain x) b) s ≡ true → goes_by is_either s ≡ true
-      goes (got v x) e f = rw (e, f)
-      goes (refused g l) e f = f
 
 -- ---- subscripts
 
@@ -132,71 +40,23 @@ module _ (inner : List (Lex Kind) → Got Nothing Kind) where
   abbrev pub listed : Nothing → List (Lex Kind) → Got Nothing Kind
   listed n y = choose (eqb (plain y) comma) (then (inner (rest y)) closed) (closed tt y)
 
-  module _ (n : ℕ) (k : Kind) (x : List (Lex Kind)) (e : n ≡ number_of k) where
-    pub sub-parameter : n ≡ 0 → then (inner (rest x)) closed ≡ subscribed inner k x
-    unfolding subscribed number_of
-    sub-parameter h = go k (sym e ∙ h)
-      where
-        go : (k : Kind) → number_of k ≡ 0 → then (inner (rest x)) closed ≡ subscribed inner k x
-        go parameter h = refl
-        go (symbol set_a) h = absurd (omega arith)
-        go (symbol set_b) h = absurd (omega arith)
-        go (symbol set_c) h = absurd (omega arith)
-        go syslist h = absurd (omega arith)
-        go sysndx h = absurd (omega arith)
-        go sysect h = absurd (omega arith)
-        go unknown h = absurd (omega arith)
+  module _ (x : List (Lex Kind)) {k : Kept} where
+    pub sub-parameter : k ≡ Parameter → then (inner (rest x)) closed ≡ subscribed inner (meant k) x
+    unfolding subscribed
+    sub-parameter e = rw e refl
 
-    pub sub-list : n ≡ 5 → then (inner (rest x)) listed ≡ subscribed inner k x
-    unfolding subscribed number_of
-    sub-list h = go k (sym e ∙ h)
-      where
-        go : (k : Kind) → number_of k ≡ 5 → then (inner (rest x)) listed ≡ subscribed inner k x
-        go parameter h = absurd (omega arith)
-        go (symbol set_a) h = absurd (omega arith)
-        go (symbol set_b) h = absurd (omega arith)
-        go (symbol set_c) h = absurd (omega arith)
-        go syslist h = refl
-        go sysndx h = absurd (omega arith)
-        go sysect h = absurd (omega arith)
-        go unknown h = absurd (omega arith)
+    pub sub-list : k ≡ Listed → then (inner (rest x)) listed ≡ subscribed inner (meant k) x
+    unfolding subscribed
+    sub-list e = rw e refl
 
-    pub sub-none : (n ≡ 0 → ⊥) → (n ≡ 5 → ⊥) → broken x ≡ subscribed inner k x
-    unfolding subscribed number_of
-    sub-none h i = go k (λ z. h (e ∙ z)) (λ z. i (e ∙ z))
-      where
-        go : (k : Kind) → (number_of k ≡ 0 → ⊥) → (number_of k ≡ 5 → ⊥) → broken x ≡ subscribed inner k x
-        go parameter h i = absurd (h refl)
-        go (symbol set_a) h i = refl
-        go (symbol set_b) h i = refl
-        go (symbol set_c) h i = refl
-        go syslist h i = absurd (i refl)
-        go sysndx h i = refl
-        go sysect h i = refl
-        go unknown h i = refl
+  module _ (kinds code : Bytes) (at : ℕ) {o : Option ℕ} (is : o ≡ choose (eqb (plain (toks_at kinds code at)) 44) (Some (at + 1)) None) where
+    pub list-one : o ≡ None → closed tt (toks_at kinds code at) ≡ listed tt (toks_at kinds code at)
+    list-one e = sym (passed_over _ _ (ended _ _ is e))
 
-  pub list-one : (s : Got Nothing Kind) → goes_by (λ x. eqb (plain x) 44) s ≡ false → then s closed ≡ then s listed
-  unfolding goes_by then
-  list-one (got v x) e = sym (passed_over _ _ e)
-  list-one (refused f l) e = refl
-
-  pub list-two : (s : Got Nothing Kind) → goes_by (λ x. eqb (plain x) 44) s ≡ true → then s (λ v x. then (inner (drop 1 x)) closed) ≡ then s listed
-  unfolding goes_by then rest
-  list-two (got v x) e = sym (chosen _ _ e)
-  list-two (refused f l) e = refl
+    pub list-two : {n : ℕ} → o ≡ Some n → then (inner (toks_at kinds code n)) closed ≡ listed tt (toks_at kinds code at)
+    list-two e = ap (λ m. then (inner (toks_at kinds code m)) closed) (found-at _ _ is e) ∙ ap (λ x. then (inner x) closed) (sym (toks-rest kinds code at)) ∙ sym (chosen _ _ (found _ _ is e))
 
 -- ---- references
-
-number_small : (k : Kind) → number_of k < 255
-unfolding number_of
-number_small parameter = omega arith
-number_small (symbol set_a) = omega arith
-number_small (symbol set_b) = omega arith
-number_small (symbol set_c) = omega arith
-number_small syslist = omega arith
-number_small sysndx = omega arith
-number_small sysect = omega arith
-number_small unknown = omega arith
 
 module _ (inner : List (Lex Kind) → Got Nothing Kind) (table : Kind → Bool → Bool) (here : List (Lex Kind)) where
   abbrev Read : Type 0
@@ -205,12 +65,12 @@ module _ (inner : List (Lex Kind) → Got Nothing Kind) (table : Kind → Bool �
   abbrev pub refers : List (Lex Kind) → Got Nothing Kind
   refers = referred form inner table (λ r. some tt) here
 
-  pub refers-none : (x : List (Lex Kind)) → kind_number x ≡ 255 → broken x ≡ refers x
-  unfolding referred reference then broken kind_number lex_number
+  pub refers-none : (x : List (Lex Kind)) → None ≡ kind_first x → broken x ≡ refers x
+  unfolding referred reference then broken kind_first kind_shown
   refers-none [] e = refl
   refers-none (byte c ∷ x) e = refl
   refers-none (mark ∷ x) e = refl
-  refers-none (ref k ∷ x) e = let small = number_small k in absurd (omega arith)
+  refers-none (ref k ∷ x) e = absurd (Some≢None (sym e))
   refers-none (lone ∷ x) e = refl
 
   -- what a reference is taken for
@@ -259,12 +119,11 @@ module _ (inner : List (Lex Kind) → Got Nothing Kind) (table : Kind → Bool �
   subs-are unknown y = refl
 
   module _ (k : Kind) {x y : List (Lex Kind)} (step : x ≡ ref k ∷ y) {c : ℕ} (read : c ≡ plain y) {fits : Bool} where
-    pub refers-bare : (c ≡ 40 → ⊥) → fits ≡ table k true → {s : Got Nothing Kind} → s ≡ got tt y → then s (fitting fits) ≡ refers x
-    unfolding then
-    refers-bare h e f = rw (step, e, f) (sym (bare-is k y (rw (← read) (ne_eqb c 40 h))))
+    pub refers-bare : (c ≡ 40 → ⊥) → fits ≡ table k true → fitting fits tt y ≡ refers x
+    refers-bare h e = rw (step, e) (sym (bare-is k y (rw (← read) (ne_eqb c 40 h))))
 
-    pub refers-subscripted : c ≡ 40 → fits ≡ table k false → {s : Got Nothing Kind} → s ≡ subscribed inner k y → then s (fitting fits) ≡ refers x
-    refers-subscripted h e f = rw (step, e, f) (sym (refers-by k y ∙ ap (λ r. then r judged) (chosen _ _ (rw (← read) (eq-eqb c 40 h))) ∙ subs-are k y))
+    pub refers-subscripted : c ≡ 40 → fits ≡ table k false → then (subscribed inner k y) (fitting fits) ≡ refers x
+    refers-subscripted h e = rw (step, e) (sym (refers-by k y ∙ ap (λ r. then r judged) (chosen _ _ (rw (← read) (eq-eqb c 40 h))) ∙ subs-are k y))
 
 -- ---- terms
 
@@ -285,17 +144,17 @@ module _ (inner : List (Lex Kind) → Got Nothing Kind) (x : List (Lex Kind)) {c
       no_digit : digit (plain x) ≡ false
       no_digit = rw (← read) d
 
-      pub term-K : is_attribute 75 x ≡ true → term form inner x ≡ referred form inner (table_of 1) (λ r. some tt) x (drop 2 x)
-      unfolding term table_of choose form
+      pub term-K : is_attribute 75 x ≡ true → term form inner x ≡ referred form inner (table_of AfterK) (λ r. some tt) x (drop 2 x)
+      unfolding term choose form
       term-K e = passed_over _ _ no-opening ∙ passed_over _ _ no_digit ∙ chosen _ _ e
 
       module _ (e : is_attribute 75 x ≡ false) where
-        pub term-N : is_attribute 78 x ≡ true → term form inner x ≡ referred form inner (table_of 2) (λ r. some tt) x (drop 2 x)
-        unfolding term table_of choose form
+        pub term-N : is_attribute 78 x ≡ true → term form inner x ≡ referred form inner (table_of AfterN) (λ r. some tt) x (drop 2 x)
+        unfolding term choose form
         term-N f = passed_over _ _ no-opening ∙ passed_over _ _ no_digit ∙ passed_over _ _ e ∙ chosen _ _ f
 
-        pub term-reference : is_attribute 78 x ≡ false → term form inner x ≡ referred form inner (table_of 0) (λ r. some tt) x x
-        unfolding term table_of choose form
+        pub term-reference : is_attribute 78 x ≡ false → term form inner x ≡ referred form inner (table_of Term) (λ r. some tt) x x
+        unfolding term choose form
         term-reference f = passed_over _ _ no-opening ∙ passed_over _ _ no_digit ∙ passed_over _ _ e ∙ passed_over _ _ f
 
 -- ---- the rules move forward
@@ -418,7 +277,7 @@ pub sum_of : (nest : ℕ) (x : List (Lex Kind)) → chained (sums-of nest) x ≡
 unfolding arithmetic
 sum_of nest x = sym (sum_is (deeper form nest) (forward-deeper nest) x)
 
-pub deeper-spent : (from : ℕ → List (Lex Kind)) (nest at : ℕ) → nest ≡ 0 → tells from (Deep at) ≡ deeper form nest (from at)
+pub deeper-spent : (from : ℕ → List (Lex Kind)) (nest at : ℕ) → nest ≡ 0 → tells from (Err (Deep at)) ≡ deeper form nest (from at)
 unfolding tells deeper
 deeper-spent from nest at h = rw h
 

@@ -3,23 +3,30 @@ use mathlib.Core.Path.{◌≡◌, refl, sym, ap, ◌∙◌}
 use mathlib.Core.Bool.{Bool, true, false, not, true≢false}
 use mathlib.Core.List.{List, [], ◌∷◌}
 use mathlib.Core.Option.{some}
-use Prim.Native.Nat.{ℕ, suc, ◌<◌, ◌≤◌}
+use Prim.Native.Nat.{ℕ, suc, ◌+◌, ◌<◌, ◌≤◌}
 use native.Mathlib.Omega.{arith}
 use native.Mathlib.Nat.{le_refl, le_trans}
 use lib.Dec.{eqb}
-use lib.ListN.{length, drop}
+use borrow.Author.Tests.{lt-ltb, le-ltb}
+use lib.ListN.{length}
 use Rattle.text.specs.Bytes.{Bytes}
 use Rattle.rules.specs.Choice.{choose, while}
 use Rattle.rules.specs.Lexemes.{Lex, byte, mark, ref, lone, period}
 use Rattle.rules.specs.Fields.{is_empty}
-use Rattle.rules.specs.Grammar.{Kind, Got, got, refused, plain, rest, then, broken, referred, piece, add_piece, goes_on_text, text, deeper, text_within}
+use Rattle.rules.specs.Grammar.{Kind, Got, got, refused, plain, rest, then, broken, reference, referred, piece, add_piece, goes_on_text, text, deeper, text_within}
 use Rattle.rules.specs.Form.{Nothing, form}
-use Rattle.rules.proofs.Choices.{either, chosen, passed_over}
-use Rattle.grammar.specs.declared.Formed.{Formed}
-use Rattle.grammar.specs.declared.Formed.TheVariants.{At, Broken, Deep}
-use Rattle.grammar.specs.Tokens.{toks_at, tells}
-use Rattle.grammar.specs.Kinds.{table_of}
-use Rattle.grammar.specs.Operands.{goes_by, past_period}
+use Rattle.rules.proofs.Choices.{by, either, chosen, passed_over}
+use Rattle.std.specs.Prelude.{Option, Some, None, Ok, Err}
+use Rattle.std.specs.Option.{unwrap_or}
+use Rattle.std.specs.Result.{IsErrAnd}
+use Rattle.grammar.specs.declared.Fault.{Fault}
+use Rattle.grammar.specs.declared.Fault.TheVariants.{Broken, Deep}
+use Rattle.grammar.specs.Tokens.{toks_at, Formed, tells}
+use Rattle.grammar.proofs.Places.{toks-rest, more-is}
+use Rattle.grammar.proofs.Answers.{same-fault}
+use Rattle.kinds.specs.declared.Stand.TheVariants.{Text}
+use Rattle.kinds.specs.Kinds.{table_of}
+use Rattle.grammar.specs.Operands.{past_period}
 use Rattle.grammar.proofs.While.{Falls, while-less, Going, going-ends, going_less, going_on}
 use Rattle.grammar.proofs.Chains.{left, left-then, Forward, drop-less, then_same}
 use Rattle.grammar.proofs.Rules.{got-left, broken-left, forward-referred, forward-deeper}
@@ -63,38 +70,46 @@ module _ {test : Got Nothing Kind → Bool} {turn : Got Nothing Kind → Got Not
   left-scanned x = let all = while-less scanning (length x) (got tt x) in let one = left-remains (scanned x) in omega arith
 
   module _ (kinds code : Bytes) where
-    abbrev pub Scanning : ℕ → Formed → Type 0
-    Scanning at so_far = Going scanning (length (toks_at kinds code at)) (scanned (toks_at kinds code at)) (tells (toks_at kinds code) so_far)
+    abbrev pub Scanning : ℕ → ℕ → Type 0
+    Scanning at here = Going scanning (length (toks_at kinds code at)) (scanned (toks_at kinds code at)) (got tt (toks_at kinds code here))
 
-    abbrev pub to_scan : Formed → ℕ
-    to_scan so_far = remains (tells (toks_at kinds code) so_far)
+    abbrev pub to_scan : ℕ → ℕ
+    to_scan here = length (toks_at kinds code here)
 
-    pub scan-starts : (at : ℕ) → Scanning at (At at)
-    unfolding tells remains
+    off : (e : Fault) → test (tells (toks_at kinds code) (Err e)) ≡ false
+    unfolding tells
+    off (Broken n) = k.stops _ _
+    off (Deep n) = k.stops _ _
+
+    pub scan-starts : (at : ℕ) → Scanning at at
+    unfolding remains
     scan-starts at = record { short = le_refl _; goes = refl }
 
-    module _ (at : ℕ) (so_far : Formed) (inv : Scanning at so_far) {b : Bool} (tested : b ≡ test (tells (toks_at kinds code) so_far)) where
-      pub scan-ends : b ≡ false → tells (toks_at kinds code) so_far ≡ scanned (toks_at kinds code at)
-      scan-ends h = going-ends scanning inv (sym tested ∙ h)
+    module _ (at here : ℕ) (inv : Scanning at here) where
+      pub scan-ends : test (got tt (toks_at kinds code here)) ≡ false → tells (toks_at kinds code) (Ok here) ≡ scanned (toks_at kinds code at)
+      unfolding tells
+      scan-ends h = going-ends scanning inv h
 
-      module _ (h : b ≡ true) (so-far' : Formed) (turned : tells (toks_at kinds code) so-far' ≡ turn (tells (toks_at kinds code) so_far)) where
-        pub scan-less : to_scan so-far' < to_scan so_far
-        scan-less = going_less scanning inv (sym tested ∙ h) turned
+      module _ (h : test (got tt (toks_at kinds code here)) ≡ true) (r : Formed) (read : tells (toks_at kinds code) r ≡ turn (got tt (toks_at kinds code here))) where
+        pub scan-less : {there : ℕ} → r ≡ Ok there → to_scan there < to_scan here
+        unfolding tells remains
+        scan-less e = going_less scanning inv h (ap (tells (toks_at kinds code)) (sym e) ∙ read)
 
-        pub scan-again : Scanning at so-far'
-        scan-again = going_on scanning inv (sym tested ∙ h) turned
+        pub scan-again : {there : ℕ} → r ≡ Ok there → Scanning at there
+        unfolding tells
+        scan-again e = going_on scanning inv h (ap (tells (toks_at kinds code)) (sym e) ∙ read)
+
+        pub scan-fails : {e : Fault} → r ≡ Err e → (s : Formed) → IsErrAnd s (λ d. d ≡ e) → tells (toks_at kinds code) s ≡ scanned (toks_at kinds code at)
+        scan-fails {e} is s out = ap (tells (toks_at kinds code)) (same-fault s out) ∙ going-ends scanning (going_on scanning inv h (ap (tells (toks_at kinds code)) (sym is) ∙ read)) (off e)
 
 -- ---- pieces
 
-pub past-none : (s : Got Nothing Kind) → goes_by (λ x. eqb (plain x) 46) s ≡ false → s ≡ then s past_period
-unfolding goes_by then past_period
-past-none (got v x) e = ap (got tt) (sym (passed_over _ _ e))
-past-none (refused f l) e = refl
-
-pub past_one : (s : Got Nothing Kind) → goes_by (λ x. eqb (plain x) 46) s ≡ true → then s (λ v x. got tt (drop 1 x)) ≡ then s past_period
-unfolding goes_by then past_period rest
-past_one (got v x) e = ap (got tt) (sym (chosen _ _ e))
-past_one (refused f l) e = refl
+pub past-is : (kinds code : Bytes) (at : ℕ) {o : Option ℕ} → o ≡ choose (eqb (plain (toks_at kinds code at)) 46) (Some (at + 1)) None → {n : ℕ} → n ≡ unwrap_or o at
+    → got tt (toks_at kinds code n) ≡ past_period tt (toks_at kinds code at)
+unfolding past_period
+past-is kinds code at is e = by (eqb (plain (toks_at kinds code at)) 46)
+    (λ h. ap (λ m. got tt (toks_at kinds code m)) (e ∙ ap (λ o. unwrap_or o at) (is ∙ chosen _ _ h)) ∙ ap (got tt) (sym (toks-rest kinds code at) ∙ sym (chosen _ _ h)))
+    (λ h. ap (λ m. got tt (toks_at kinds code m)) (e ∙ ap (λ o. unwrap_or o at) (is ∙ passed_over _ _ h)) ∙ ap (got tt) (sym (passed_over _ _ h)))
 
 module _ (inner : List (Lex Kind) → Got Nothing Kind) where
   pub piece-end : (x : List (Lex Kind)) → x ≡ [] → broken x ≡ piece form inner x
@@ -109,35 +124,26 @@ module _ (inner : List (Lex Kind) → Got Nothing Kind) where
   unfolding piece form
   piece-mark x = refl
 
-  pub piece-lone : (x : List (Lex Kind)) → broken (lone ∷ x) ≡ piece form inner (lone ∷ x)
-  unfolding piece
+  pub piece-lone : (x : List (Lex Kind)) → then (referred form inner (table_of Text) (λ r. some tt) (lone ∷ x) (lone ∷ x)) past_period ≡ piece form inner (lone ∷ x)
+  unfolding piece referred reference then broken form
   piece-lone x = refl
 
-  pub piece-ref : (k : Kind) (x : List (Lex Kind)) → then (referred form inner (table_of 4) (λ r. some tt) (ref k ∷ x) (ref k ∷ x)) past_period ≡ piece form inner (ref k ∷ x)
-  unfolding piece form table_of choose past_period
+  pub piece-ref : (k : Kind) (x : List (Lex Kind)) → then (referred form inner (table_of Text) (λ r. some tt) (ref k ∷ x) (ref k ∷ x)) past_period ≡ piece form inner (ref k ∷ x)
+  unfolding piece form choose past_period
   piece-ref k x = refl
 
   pub add-got : (x : List (Lex Kind)) → piece form inner x ≡ add_piece form inner (got tt x)
   unfolding add_piece form
   add-got x = sym (then_same (piece form inner x))
 
-  module _ (from : ℕ → List (Lex Kind)) {so_far : Formed} {n : ℕ} where
-    pub add_at : so_far ≡ At n → piece form inner (from n) ≡ add_piece form inner (tells from so_far)
-    unfolding tells
-    add_at e = rw e (add-got (from n))
+  module _ (kinds code : Bytes) (here : ℕ) where
+    pub text-goes : here < length code → goes_on_text form inner (got tt (toks_at kinds code here)) ≡ true
+    unfolding goes_on_text
+    text-goes h = sym (more-is kinds code here) ∙ lt-ltb here (length code) h
 
-    pub add-broken : so_far ≡ Broken n → tells from (Broken n) ≡ add_piece form inner (tells from so_far)
-    unfolding tells add_piece
-    add-broken e = rw e
-
-    pub add-deep : so_far ≡ Deep n → tells from (Deep n) ≡ add_piece form inner (tells from so_far)
-    unfolding tells add_piece
-    add-deep e = rw e
-
-  pub goes-text : (s : Got Nothing Kind) → goes_by (λ x. not (is_empty x)) s ≡ goes_on_text form inner s
-  unfolding goes_by goes_on_text
-  goes-text (got v x) = refl
-  goes-text (refused e n) = refl
+    pub text-stops : length code ≤ here → goes_on_text form inner (got tt (toks_at kinds code here)) ≡ false
+    unfolding goes_on_text
+    text-stops h = sym (more-is kinds code here) ∙ le-ltb here (length code) h
 
   module _ (forward : Forward inner) where
     left-period : (v : Nothing) (x : List (Lex Kind)) → left (past_period v x) ≤ suc (length x)
@@ -149,7 +155,7 @@ module _ (inner : List (Lex Kind) → Got Nothing Kind) where
     forward-piece [] = broken-left _ [] _
     forward-piece (byte c ∷ x) = got-left tt x _ (le_refl _)
     forward-piece (mark ∷ x) = got-left tt x _ (le_refl _)
-    forward-piece (ref r ∷ x) = rw (← piece-ref r x) (le_trans (left-then (referred form inner (table_of 4) (λ r. some tt) (ref r ∷ x) (ref r ∷ x)) past_period left-period) (forward-referred inner forward (table_of 4) (ref r ∷ x) (ref r ∷ x)))
+    forward-piece (ref r ∷ x) = rw (← piece-ref r x) (le_trans (left-then (referred form inner (table_of Text) (λ r. some tt) (ref r ∷ x) (ref r ∷ x)) past_period left-period) (forward-referred inner forward (table_of Text) (ref r ∷ x) (ref r ∷ x)))
     forward-piece (lone ∷ x) = broken-left _ (lone ∷ x) _
 
     pub texts : Scan (goes_on_text form inner) (add_piece form inner)
@@ -166,16 +172,3 @@ texts-of nest = texts (deeper form nest) (forward-deeper nest)
 pub text_of : (nest : ℕ) (x : List (Lex Kind)) → scanned (texts-of nest) x ≡ text_within form nest x
 unfolding text_within text form
 text_of nest x = refl
-
-module _ (goes : List (Lex Kind) → Bool) (from : ℕ → List (Lex Kind)) {so_far : Formed} {n : ℕ} where
-  pub goes_at : so_far ≡ At n → goes (from n) ≡ goes_by goes (tells from so_far)
-  unfolding tells goes_by
-  goes_at e = rw e
-
-  pub goes-broken : so_far ≡ Broken n → false ≡ goes_by goes (tells from so_far)
-  unfolding tells goes_by
-  goes-broken e = rw e
-
-  pub goes-deep : so_far ≡ Deep n → false ≡ goes_by goes (tells from so_far)
-  unfolding tells goes_by
-  goes-deep e = rw e

@@ -1,6 +1,6 @@
 -- A field as code sees it: one byte for each lexeme, as in a deck, and a table of the kinds of its slots. One abstraction, `toks_at`, says which lexemes a place has
 -- from it on; everything else is the rules' own grammar.
-use Rattle.std.specs.Prelude.{ℕ, ◌-◌, List, map, eqb, ltb, length, drop, get_or}
+use Rattle.std.specs.Prelude.{ℕ, ◌-◌, List, map, eqb, ltb, length, drop, get_or, Result, Ok, Err}
 use Rattle.text.specs.Bytes.{Bytes}
 use Rattle.rules.specs.Choice.{choose}
 use Rattle.rules.specs.Limits.{ill_formed, over_limit}
@@ -8,8 +8,8 @@ use Rattle.rules.specs.Lexemes.{Lex, byte, mark, ref, lone}
 use Rattle.rules.specs.Statement.{set_a, set_b, set_c}
 use Rattle.rules.specs.Grammar.{Kind, parameter, symbol, syslist, sysndx, sysect, unknown, Got, got, refused}
 use Rattle.rules.specs.Form.{Nothing}
-use Rattle.grammar.specs.declared.Formed.{Formed}
-use Rattle.grammar.specs.declared.Formed.TheVariants.{At, Broken, Deep}
+use Rattle.grammar.specs.declared.Fault.{Fault}
+use Rattle.grammar.specs.declared.Fault.TheVariants.{Broken, Deep}
 
 -- a kind as a number: 0 parameter, 1 SETA, 2 SETB, 3 SETC, any other none
 unfoldable pub kind_of : ℕ → Kind
@@ -27,8 +27,12 @@ lex_of kinds b =
 unfoldable pub toks_at : Bytes → Bytes → ℕ → List (Lex Kind)
 toks_at kinds code at = map (lex_of kinds) (drop at code)
 
--- what a function's answer says: a place stands for the lexemes from there on
+-- what a function answers: the place that reading comes to, or a fault and its place
+abbrev pub Formed : Type 0
+Formed = Result ℕ Fault
+
+-- what that says: a place stands for the lexemes from there on
 unfoldable pub tells : (ℕ → List (Lex Kind)) → Formed → Got Nothing Kind
-tells from (At n) = got tt (from n)
-tells from (Broken n) = refused ill_formed (length (from n))
-tells from (Deep n) = refused over_limit (length (from n))
+tells from (Ok n) = got tt (from n)
+tells from (Err (Broken n)) = refused ill_formed (length (from n))
+tells from (Err (Deep n)) = refused over_limit (length (from n))

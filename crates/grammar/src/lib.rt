@@ -1,4 +1,5 @@
-// Whether a field is well formed, over its lexeme bytes and the kinds of its slots.
+// Whether a field is well formed, over its lexeme bytes and the kinds of its slots. Those are two slices and no struct: a third of the functions promise
+// something for any kinds, or look at the bytes alone.
 #![tactic(auto)]
 
 ghost use Rattle.std.specs.Prelude.{◌≡◌, Bool, not, List, [], ◌∷◌, ℕ, ◌+◌, ◌<◌, eqb, length, get_or};
@@ -7,22 +8,28 @@ ghost use Rattle.text.specs.Bytes.{Bytes, member};
 ghost use Rattle.rules.specs.Fields.{is_empty};
 ghost use Rattle.rules.specs.Choice.{choose};
 ghost use Rattle.rules.specs.Lexemes.{Lex};
-ghost use Rattle.rules.specs.Grammar.{Kind, Got, got, plain, starts_mark, is_attribute, then, broken, decimal_number, deeper, referred, term, product, arithmetic, piece, add_piece, text_within, is_doubled, add_quoted, substringed, string, string_within, past_spaces};
+ghost use Rattle.rules.specs.Grammar.{Kind as Meant, Got, got, plain, starts_mark, is_attribute, then, broken, decimal_number, deeper, referred, term, product, arithmetic, piece, add_piece, text_within, is_doubled, add_quoted, substringed, string, string_within, past_spaces};
 ghost use Rattle.rules.specs.Grammar.{closed as closed_by};
 ghost use Rattle.rules.specs.Form.{Nothing, form};
-ghost use Rattle.grammar.specs.Tokens.{kind_of, toks_at, tells};
-ghost use Rattle.grammar.specs.Kinds.{number_of, kind_number, table_of};
-ghost use Rattle.grammar.specs.Operands.{Operand, Tells, subscribed, goes_by, past_period, quote_goes, quoted_run, unquoted_by, strings_by};
+ghost use Rattle.kinds.specs.Kinds.{table_of, kind_for};
+ghost use Rattle.kinds.specs.Kinds.{kind_of as meant};
+ghost use Rattle.grammar.specs.Tokens.{kind_of, lex_of, toks_at, tells};
+ghost use Rattle.grammar.specs.Kinds.{kind_shown, kind_first};
+ghost use Rattle.grammar.specs.Operands.{Operand, Tells, subscribed, expected, past_period, quote_goes, quoted_run, strings_by};
 
-// What reading gives: well formed up to a place; ill-formed, or too deep, from a place on.
-#[derive(Clone, Copy)]
-pub enum Formed {
-    At(usize),
+use kinds::{Kind, Set, Stand};
+
+// Why what was read is not well formed, and from which place on: it is ill-formed, or its parentheses go too deep.
+#[derive(Clone, Copy, PartialEq, Eq)]
+pub enum Fault {
     Broken(usize),
     Deep(usize),
 }
 
-// The byte of text at a place; 0 where none stands there.
+// The place that reading comes to.
+pub type Formed = Result<usize, Fault>;
+
+// The byte of text at a place; 0 where none stands there, as in the rules' `plain`: no byte that the grammar asks for is 0.
 pub fn text_at(code: &[u8], at: usize) -> u8
     ensures { (kinds : Bytes) → result ≡ plain (toks_at kinds code.now at) }
 {
@@ -48,130 +55,162 @@ pub fn attribute_at(code: &[u8], c: u8, at: usize) -> bool
     mark_at(code, at + 1)
 }
 
-// The kind of a slot.
-fn slot_kind(kinds: &[u8], i: usize) -> u8
-    ensures { result ≡ number_of (kind_of (get_or kinds.now i 4)) }
+// The kind that has this number in a deck; unknown where none has.
+#[tactic(auto, unfolding(crate::specs::Tokens::kind_of, rules::specs::Choice::choose))]
+pub fn kind_numbered(n: u8) -> Kind
+    ensures { result ≡ kind_for (kind_of n) }
 {
-    if kinds.len() <= i {
-        return 4;
-    }
-    let k = kinds[i];
-    if k < 4 { k } else { 4 }
-}
-
-// The kind of the variable symbol at a place; 255 where none stands there.
-pub fn kind_at(kinds: &[u8], code: &[u8], at: usize) -> u8
-    ensures { result ≡ kind_number (toks_at kinds.now code.now at) }
-{
-    let b = lent::byte(code, at);
-    if b < 128 {
-        return 255;
-    }
-    if b < 224 {
-        return slot_kind(kinds, b as usize - 128);
-    }
-    if b < 227 { b - 219 } else { 255 }
-}
-
-// `)`.
-const CLOSING: u8 = 41;
-
-// The parenthesis that closes.
-pub fn closed(code: &[u8], so_far: Formed) -> Formed
-    ensures { (kinds : Bytes) → tells (toks_at kinds code.now) result ≡ then (tells (toks_at kinds code.now) so_far) closed_by }
-{
-    match so_far {
-        Formed::At(at) => {
-            if text_at(code, at) == CLOSING {
-                Formed::At(at + 1)
-            } else {
-                Formed::Broken(at)
-            }
-        }
-        Formed::Broken(at) => Formed::Broken(at),
-        Formed::Deep(at) => Formed::Deep(at),
+    match n {
+        0 => Kind::Parameter,
+        1 => Kind::Symbol(Set::A),
+        2 => Kind::Symbol(Set::B),
+        3 => Kind::Symbol(Set::C),
+        _ => Kind::Unknown,
     }
 }
 
-// Where the next operand stands, if the byte `c` comes first; else 0.
-fn after_byte(code: &[u8], so_far: Formed, c: u8) -> usize
+// The kind of a slot; unknown where there is no such slot.
+#[tactic(auto, unfolding(crate::specs::Tokens::kind_of, rules::specs::Choice::choose))]
+fn slot_kind(kinds: &[u8], i: usize) -> Kind
+    ensures { result ≡ kind_for (kind_of (get_or kinds.now i 4)) }
+{
+    if i < kinds.len() {
+        kind_numbered(kinds[i])
+    } else {
+        Kind::Unknown
+    }
+}
+
+// The kind of the variable symbol that this byte stands for.
+#[tactic(auto, unfolding(crate::specs::Tokens::lex_of, crate::specs::Kinds::kind_shown, rules::specs::Choice::choose))]
+fn kind_shown(kinds: &[u8], b: u8) -> Option<Kind>
+    ensures { result ≡ kind_shown (lex_of kinds.now b) }
+{
+    match b {
+        128..=223 => Some(slot_kind(kinds, b as usize - 128)),
+        224 => Some(Kind::List),
+        225 => Some(Kind::Index),
+        226 => Some(Kind::Section),
+        _ => None,
+    }
+}
+
+// The kind of the variable symbol at a place.
+pub fn kind_at(kinds: &[u8], code: &[u8], at: usize) -> Option<Kind>
+    ensures { result ≡ kind_first (toks_at kinds.now code.now at) }
+{
+    kind_shown(kinds, lent::byte(code, at))
+}
+
+// The place behind this byte, where it stands there.
+pub fn after_byte(code: &[u8], at: usize, c: u8) -> Option<usize>
     requires { 0 < c }
-    ensures { Operand (λ x. eqb (plain x) c) 1 code.now so_far result }
+    ensures { Operand (λ x. eqb (plain x) c) 1 code.now at result }
 {
-    match so_far {
-        Formed::At(at) => { if text_at(code, at) == c { at + 1 } else { 0 } }
-        Formed::Broken(_) => 0,
-        Formed::Deep(_) => 0,
+    if text_at(code, at) == c {
+        Some(at + 1)
+    } else {
+        None
     }
 }
 
-// A decimal number.
+// The place behind one of these two bytes, where one stands there.
+pub fn after_either(code: &[u8], at: usize, a: u8, b: u8) -> Option<usize>
+    requires { (0 < a) × (0 < b) }
+    ensures { Operand (λ x. member (plain x) (a ∷ b ∷ [])) 1 code.now at result }
+{
+    let c = text_at(code, at);
+    if (c == a) | (c == b) {
+        Some(at + 1)
+    } else {
+        None
+    }
+}
+
+// The place behind this byte, which must stand there.
+fn expected(code: &[u8], at: usize, c: u8) -> Formed
+    requires { 0 < c }
+    ensures { (kinds : Bytes) → Tells (expected c) kinds code.now at result }
+{
+    after_byte(code, at, c).ok_or(Fault::Broken(at))
+}
+
+// The parenthesis that closes a pair.
+const CLOSING: u8 = b')';
+
+// The place behind the parenthesis that closes, which must stand there.
+pub fn closed(code: &[u8], at: usize) -> Formed
+    ensures { (kinds : Bytes) → Tells (closed_by tt) kinds code.now at result }
+{
+    expected(code, at, CLOSING)
+}
+
+// The largest number that can be written.
+const LARGEST: u64 = 2147483647;
+
+// A decimal number. A loop over what is read: it ends at the first byte that is no digit, and at the first number out of range.
 fn decimal(code: &[u8], at: usize) -> Formed
-    ensures { (kinds : Bytes) (inner : List (Lex Kind) → Got Nothing Kind) → tells (toks_at kinds code.now) result ≡ decimal_number form inner (toks_at kinds code.now at) }
+    ensures { (kinds : Bytes) (inner : List (Lex Meant) → Got Nothing Meant) → Tells (decimal_number form inner) kinds code.now at result }
 {
     let mut n: u64 = 0;
     let mut here = at;
-    loop {
-        let c = text_at(code, here);
-        if !chars::digit(c) {
-            if chars::letter(c) {
-                return Formed::Broken(at);
-            }
-            return Formed::At(here);
+    let mut c = text_at(code, here);
+    while chars::digit(c) {
+        n = n * 10 + u64::from(c - b'0');
+        if LARGEST < n {
+            return Err(Fault::Broken(at));
         }
-        n = n * 10 + (c - 48) as u64;
-        if 2147483647 < n {
-            return Formed::Broken(at);
-        }
-        here = here + 1;
+        here += 1;
+        c = text_at(code, here);
+    }
+    if chars::letter(c) {
+        return Err(Fault::Broken(at));
+    }
+    Ok(here)
+}
+
+// Whether a reference of this kind may stand there, with no subscript where it is bare.
+#[tactic(auto, unfolding(rules::specs::Grammar::as_term, rules::specs::Grammar::after_k, rules::specs::Grammar::after_n, rules::specs::Grammar::after_t, rules::specs::Grammar::in_text))]
+pub fn takes(stand: Stand, kind: Kind, bare: bool) -> bool
+    ensures { result ≡ table_of stand (meant kind) bare }
+{
+    match stand {
+        Stand::Term => match kind {
+            Kind::Parameter | Kind::Symbol(Set::A) | Kind::Symbol(Set::C) | Kind::Index => true,
+            Kind::List => !bare,
+            Kind::Symbol(Set::B) | Kind::Section | Kind::Unknown => false,
+        },
+        Stand::AfterK => match kind {
+            Kind::Parameter | Kind::Symbol(Set::C) | Kind::Index | Kind::Section => true,
+            Kind::List => !bare,
+            Kind::Symbol(Set::A) | Kind::Symbol(Set::B) | Kind::Unknown => false,
+        },
+        Stand::AfterN => match kind {
+            Kind::Parameter | Kind::List => true,
+            Kind::Symbol(_) | Kind::Index | Kind::Section | Kind::Unknown => false,
+        },
+        Stand::AfterT => match kind {
+            Kind::Parameter => true,
+            Kind::List => !bare,
+            Kind::Symbol(_) | Kind::Index | Kind::Section | Kind::Unknown => false,
+        },
+        Stand::Text => match kind {
+            Kind::Parameter | Kind::Symbol(_) | Kind::Index | Kind::Section => true,
+            Kind::List => !bare,
+            Kind::Unknown => false,
+        },
     }
 }
 
-// Where the next operand stands, if the byte `a` or `b` comes first; else 0.
-fn after_either(code: &[u8], so_far: Formed, a: u8, b: u8) -> usize
-    requires { (0 < a) × (0 < b) }
-    ensures { Operand (λ x. member (plain x) (a ∷ b ∷ [])) 1 code.now so_far result }
+// What was read up to a place, where it may stand here; else the term at `here` is ill-formed.
+#[tactic(auto, unfolding(crate::specs::Tokens::tells, rules::specs::Grammar::broken, rules::specs::Choice::choose))]
+fn taken(fits: bool, here: usize, at: usize) -> Formed
+    ensures { (from : ℕ → List (Lex Meant)) → tells from result ≡ choose fits (got tt (from at)) (broken (from here)) }
 {
-    let next = after_byte(code, so_far, a);
-    if next != 0 {
-        return next;
-    }
-    after_byte(code, so_far, b)
-}
-
-// Whether a reference of this kind may stand here, with no subscript where it is bare.
-pub fn takes(table: u8, kind: u8, bare: bool) -> bool
-    ensures { (k : Kind) → kind ≡ number_of k → result ≡ table_of table k bare }
-{
-    if table == 0 {
-        return (kind == 0) | (kind == 1) | (kind == 3) | (kind == 6) | ((kind == 5) & !bare);
-    }
-    if table == 1 {
-        return (kind == 0) | (kind == 3) | (kind == 6) | (kind == 7) | ((kind == 5) & !bare);
-    }
-    if table == 2 {
-        return (kind == 0) | (kind == 5);
-    }
-    if table == 3 {
-        return (kind == 0) | ((kind == 5) & !bare);
-    }
-    (kind < 4) | (kind == 6) | (kind == 7) | ((kind == 5) & !bare)
-}
-
-// What was read, where it may stand here; else the term at `here` is ill-formed.
-fn taken(fits: bool, here: usize, so_far: Formed) -> Formed
-    ensures { (from : ℕ → List (Lex Kind)) → tells from result ≡ then (tells from so_far) (λ v x. choose fits (got tt x) (broken (from here))) }
-{
-    match so_far {
-        Formed::At(at) => {
-            if fits {
-                Formed::At(at)
-            } else {
-                Formed::Broken(here)
-            }
-        }
-        Formed::Broken(at) => Formed::Broken(at),
-        Formed::Deep(at) => Formed::Deep(at),
+    if fits {
+        Ok(at)
+    } else {
+        Err(Fault::Broken(here))
     }
 }
 
@@ -181,7 +220,7 @@ fn inner(kinds: &[u8], code: &[u8], at: usize, nest: usize) -> Formed
     ensures { Tells (deeper form nest) kinds.now code.now at result }
 {
     if nest == 0 {
-        Formed::Deep(at)
+        Err(Fault::Deep(at))
     } else {
         arithmetic(kinds, code, at, nest - 1)
     }
@@ -189,41 +228,43 @@ fn inner(kinds: &[u8], code: &[u8], at: usize, nest: usize) -> Formed
 
 // The subscripts of a reference of this kind, from their opening parenthesis on.
 #[cycle(arithmetic_inner_product_referred_subscripts_term)]
-fn subscripts(kinds: &[u8], code: &[u8], at: usize, nest: usize, kind: u8) -> Formed
+fn subscripts(kinds: &[u8], code: &[u8], at: usize, nest: usize, kind: Kind) -> Formed
     requires { at < length code.now }
-    ensures { (k : Kind) → kind ≡ number_of k → Tells (subscribed (deeper form nest) k) kinds.now code.now at result }
+    ensures { Tells (subscribed (deeper form nest) (meant kind)) kinds.now code.now at result }
 {
-    if kind == 0 {
-        return closed(code, inner(kinds, code, at + 1, nest));
-    }
-    if kind == 5 {
-        let first = inner(kinds, code, at + 1, nest);
-        let next = after_byte(code, first, 44);
-        if next == 0 {
-            return closed(code, first);
+    match kind {
+        Kind::Parameter => closed(code, inner(kinds, code, at + 1, nest)?),
+        Kind::List => {
+            let first = inner(kinds, code, at + 1, nest)?;
+            match after_byte(code, first, b',') {
+                None => closed(code, first),
+                Some(second) => closed(code, inner(kinds, code, second, nest)?),
+            }
         }
-        return closed(code, inner(kinds, code, next, nest));
+        Kind::Symbol(_) | Kind::Index | Kind::Section | Kind::Unknown => Err(Fault::Broken(at)),
     }
-    Formed::Broken(at)
 }
 
-// A reference that the table takes, as the term that starts at `here`.
+// A reference that may stand there, as the term that starts at `here`.
 #[cycle(arithmetic_inner_product_referred_subscripts_term)]
-pub fn referred(kinds: &[u8], code: &[u8], at: usize, nest: usize, here: usize, table: u8) -> Formed
-    ensures { Tells (referred form (deeper form nest) (table_of table) (λ r. some tt) (toks_at kinds.now code.now here)) kinds.now code.now at result }
+pub fn referred(
+    kinds: &[u8],
+    code: &[u8],
+    at: usize,
+    nest: usize,
+    here: usize,
+    stand: Stand,
+) -> Formed
+    ensures { Tells (referred form (deeper form nest) (table_of stand) (λ r. some tt) (toks_at kinds.now code.now here)) kinds.now code.now at result }
 {
-    let kind = kind_at(kinds, code, at);
-    if kind == 255 {
-        return Formed::Broken(at);
+    let Some(kind) = kind_at(kinds, code, at) else {
+        return Err(Fault::Broken(at));
+    };
+    if text_at(code, at + 1) == b'(' {
+        let end = subscripts(kinds, code, at + 1, nest, kind)?;
+        return taken(takes(stand, kind, false), here, end);
     }
-    if text_at(code, at + 1) == 40 {
-        return taken(
-            takes(table, kind, false),
-            here,
-            subscripts(kinds, code, at + 1, nest, kind),
-        );
-    }
-    taken(takes(table, kind, true), here, Formed::At(at + 1))
+    taken(takes(stand, kind, true), here, at + 1)
 }
 
 #[cycle(arithmetic_inner_product_referred_subscripts_term)]
@@ -231,33 +272,30 @@ fn term(kinds: &[u8], code: &[u8], at: usize, nest: usize) -> Formed
     ensures { Tells (term form (deeper form nest)) kinds.now code.now at result }
 {
     let c = text_at(code, at);
-    if c == 40 {
-        return closed(code, inner(kinds, code, at + 1, nest));
+    if c == b'(' {
+        return closed(code, inner(kinds, code, at + 1, nest)?);
     }
     if chars::digit(c) {
         return decimal(code, at);
     }
-    if attribute_at(code, 75, at) {
-        return referred(kinds, code, at + 2, nest, at, 1);
+    if attribute_at(code, b'K', at) {
+        return referred(kinds, code, at + 2, nest, at, Stand::AfterK);
     }
-    if attribute_at(code, 78, at) {
-        return referred(kinds, code, at + 2, nest, at, 2);
+    if attribute_at(code, b'N', at) {
+        return referred(kinds, code, at + 2, nest, at, Stand::AfterN);
     }
-    referred(kinds, code, at, nest, at, 0)
+    referred(kinds, code, at, nest, at, Stand::Term)
 }
 
 #[cycle(arithmetic_inner_product_referred_subscripts_term)]
 fn product(kinds: &[u8], code: &[u8], at: usize, nest: usize) -> Formed
     ensures { Tells (product form (deeper form nest)) kinds.now code.now at result }
 {
-    let mut so_far = term(kinds, code, at, nest);
-    loop {
-        let next = after_either(code, so_far, 42, 47);
-        if next == 0 {
-            return so_far;
-        }
-        so_far = term(kinds, code, next, nest);
+    let mut here = term(kinds, code, at, nest)?;
+    while let Some(next) = after_either(code, here, b'*', b'/') {
+        here = term(kinds, code, next, nest)?;
     }
+    Ok(here)
 }
 
 // An arithmetic expression in which `nest` pairs of parentheses may be open at once.
@@ -265,22 +303,18 @@ fn product(kinds: &[u8], code: &[u8], at: usize, nest: usize) -> Formed
 pub fn arithmetic(kinds: &[u8], code: &[u8], at: usize, nest: usize) -> Formed
     ensures { Tells (arithmetic form nest) kinds.now code.now at result }
 {
-    let mut so_far = product(kinds, code, at, nest);
-    loop {
-        let next = after_either(code, so_far, 43, 45);
-        if next == 0 {
-            return so_far;
-        }
-        so_far = product(kinds, code, next, nest);
+    let mut here = product(kinds, code, at, nest)?;
+    while let Some(next) = after_either(code, here, b'+', b'-') {
+        here = product(kinds, code, next, nest)?;
     }
+    Ok(here)
 }
 
-// The period that is removed after a reference in text.
-fn past_period(code: &[u8], so_far: Formed) -> Formed
-    ensures { (kinds : Bytes) → tells (toks_at kinds code.now) result ≡ then (tells (toks_at kinds code.now) so_far) past_period }
+// The place behind the period that is removed after a reference in text.
+fn past_period(code: &[u8], at: usize) -> usize
+    ensures { (kinds : Bytes) → got tt (toks_at kinds code.now result) ≡ past_period tt (toks_at kinds code.now at) }
 {
-    let next = after_byte(code, so_far, 46);
-    if next == 0 { so_far } else { Formed::At(next) }
+    after_byte(code, at, b'.').unwrap_or(at)
 }
 
 // One piece of a text.
@@ -288,194 +322,115 @@ fn piece(kinds: &[u8], code: &[u8], at: usize, nest: usize) -> Formed
     ensures { Tells (piece form (deeper form nest)) kinds.now code.now at result }
 {
     if code.len() <= at {
-        return Formed::Broken(at);
+        return Err(Fault::Broken(at));
     }
-    let b = code[at];
-    if b < 128 {
-        return Formed::At(at + 1);
+    if code[at] < 128 {
+        return Ok(at + 1);
     }
-    if 226 < b {
-        return Formed::Broken(at);
-    }
-    past_period(code, referred(kinds, code, at, nest, at, 4))
+    let end = referred(kinds, code, at, nest, at, Stand::Text)?;
+    Ok(past_period(code, end))
 }
 
-fn add_piece(kinds: &[u8], code: &[u8], so_far: Formed, nest: usize) -> Formed
-    ensures { tells (toks_at kinds.now code.now) result ≡ add_piece form (deeper form nest) (tells (toks_at kinds.now code.now) so_far) }
-{
-    match so_far {
-        Formed::At(at) => piece(kinds, code, at, nest),
-        Formed::Broken(at) => Formed::Broken(at),
-        Formed::Deep(at) => Formed::Deep(at),
-    }
-}
-
-// Whether more text follows.
-fn more(code: &[u8], so_far: Formed) -> bool
-    ensures { (kinds : Bytes) → result ≡ goes_by (λ x. not (is_empty x)) (tells (toks_at kinds code.now) so_far) }
-{
-    match so_far {
-        Formed::At(at) => at < code.len(),
-        Formed::Broken(_) => false,
-        Formed::Deep(_) => false,
-    }
-}
-
-// A text to its end.
+// A text to its end. A loop over what is read: each piece says where the next stands, or is refused.
 pub fn text(kinds: &[u8], code: &[u8], at: usize, nest: usize) -> Formed
     ensures { Tells (text_within form nest) kinds.now code.now at result }
 {
-    let mut so_far = Formed::At(at);
-    loop {
-        if !more(code, so_far) {
-            return so_far;
-        }
-        so_far = add_piece(kinds, code, so_far, nest);
+    let mut here = at;
+    while here < code.len() {
+        here = piece(kinds, code, here, nest)?;
     }
+    Ok(here)
 }
 
 // Whether two apostrophes stand at a place.
 fn doubled(code: &[u8], at: usize) -> bool
-    ensures { (kinds : Bytes) (inner : List (Lex Kind) → Got Nothing Kind) → result ≡ is_doubled form inner (toks_at kinds code.now at) }
+    ensures { (kinds : Bytes) (inner : List (Lex Meant) → Got Nothing Meant) → result ≡ is_doubled form inner (toks_at kinds code.now at) }
 {
-    if text_at(code, at) != 39 {
+    if text_at(code, at) != b'\'' {
         return false;
     }
-    text_at(code, at + 1) == 39
+    text_at(code, at + 1) == b'\''
 }
 
 // Whether what stands between quotes goes on.
-fn more_quoted(code: &[u8], so_far: Formed) -> bool
-    ensures { (kinds : Bytes) (inner : List (Lex Kind) → Got Nothing Kind) → result ≡ goes_by (quote_goes inner) (tells (toks_at kinds code.now) so_far) }
+fn more_quoted(code: &[u8], at: usize) -> bool
+    ensures { (kinds : Bytes) (inner : List (Lex Meant) → Got Nothing Meant) → result ≡ quote_goes inner (toks_at kinds code.now at) }
 {
-    match so_far {
-        Formed::At(at) => doubled(code, at) | !((code.len() <= at) | (text_at(code, at) == 39)),
-        Formed::Broken(_) => false,
-        Formed::Deep(_) => false,
-    }
+    doubled(code, at) | !((code.len() <= at) | (text_at(code, at) == b'\''))
 }
 
-fn add_quoted(kinds: &[u8], code: &[u8], so_far: Formed, nest: usize) -> Formed
-    ensures { tells (toks_at kinds.now code.now) result ≡ add_quoted form (deeper form nest) (tells (toks_at kinds.now code.now) so_far) }
+// Two apostrophes, or a piece.
+fn quoted_piece(kinds: &[u8], code: &[u8], at: usize, nest: usize) -> Formed
+    ensures { Tells (λ x. add_quoted form (deeper form nest) (got tt x)) kinds.now code.now at result }
 {
-    match so_far {
-        Formed::At(at) => {
-            if doubled(code, at) {
-                Formed::At(at + 2)
-            } else {
-                piece(kinds, code, at, nest)
-            }
-        }
-        Formed::Broken(at) => Formed::Broken(at),
-        Formed::Deep(at) => Formed::Deep(at),
+    if doubled(code, at) {
+        return Ok(at + 2);
     }
+    piece(kinds, code, at, nest)
 }
 
-// What stands between quotes, up to the quote that closes it.
+// What stands between quotes, up to the quote that closes it. A loop over what is read, as `text` is.
 fn quoted(kinds: &[u8], code: &[u8], at: usize, nest: usize) -> Formed
     ensures { Tells (quoted_run (deeper form nest)) kinds.now code.now at result }
 {
-    let mut so_far = Formed::At(at);
-    loop {
-        if !more_quoted(code, so_far) {
-            return so_far;
-        }
-        so_far = add_quoted(kinds, code, so_far, nest);
+    let mut here = at;
+    while more_quoted(code, here) {
+        here = quoted_piece(kinds, code, here, nest)?;
     }
-}
-
-// The quote that closes.
-fn unquoted(code: &[u8], so_far: Formed) -> Formed
-    ensures { (kinds : Bytes) → tells (toks_at kinds code.now) result ≡ then (tells (toks_at kinds code.now) so_far) unquoted_by }
-{
-    match so_far {
-        Formed::At(at) => {
-            if text_at(code, at) == 39 {
-                Formed::At(at + 1)
-            } else {
-                Formed::Broken(at)
-            }
-        }
-        Formed::Broken(at) => Formed::Broken(at),
-        Formed::Deep(at) => Formed::Deep(at),
-    }
-}
-
-// What was read, and then something that is ill-formed.
-fn ill_formed(so_far: Formed) -> Formed
-    ensures { (from : ℕ → List (Lex Kind)) → tells from result ≡ then (tells from so_far) (λ v x. broken x) }
-{
-    match so_far {
-        Formed::At(at) => Formed::Broken(at),
-        Formed::Broken(at) => Formed::Broken(at),
-        Formed::Deep(at) => Formed::Deep(at),
-    }
+    Ok(here)
 }
 
 // The start and the count behind a string.
-fn substring(kinds: &[u8], code: &[u8], so_far: Formed, nest: usize) -> Formed
-    ensures { (here : List (Lex Kind)) → tells (toks_at kinds.now code.now) result ≡ then (tells (toks_at kinds.now code.now) so_far) (substringed form (deeper form nest) here) }
+fn substring(kinds: &[u8], code: &[u8], at: usize, nest: usize) -> Formed
+    ensures { (here : List (Lex Meant)) → Tells (substringed form (deeper form nest) here tt) kinds.now code.now at result }
 {
-    let first = after_byte(code, so_far, 40);
-    if first == 0 {
-        return so_far;
+    match after_byte(code, at, b'(') {
+        None => Ok(at),
+        Some(first) => {
+            let start = inner(kinds, code, first, nest)?;
+            let second = expected(code, start, b',')?;
+            closed(code, inner(kinds, code, second, nest)?)
+        }
     }
-    let start = inner(kinds, code, first, nest);
-    let second = after_byte(code, start, 44);
-    if second == 0 {
-        return ill_formed(start);
-    }
-    closed(code, inner(kinds, code, second, nest))
 }
 
 // A quoted string.
 fn string(kinds: &[u8], code: &[u8], at: usize, nest: usize) -> Formed
     ensures { Tells (string form (deeper form nest)) kinds.now code.now at result }
 {
-    if text_at(code, at) != 39 {
-        return Formed::Broken(at);
-    }
-    substring(
-        kinds,
-        code,
-        unquoted(code, quoted(kinds, code, at + 1, nest)),
-        nest,
-    )
+    let start = expected(code, at, b'\'')?;
+    let end = quoted(kinds, code, start, nest)?;
+    substring(kinds, code, expected(code, end, b'\'')?, nest)
 }
 
 // Strings joined by periods.
 fn strings(kinds: &[u8], code: &[u8], at: usize, nest: usize) -> Formed
     ensures { Tells (strings_by (deeper form nest)) kinds.now code.now at result }
 {
-    let mut so_far = string(kinds, code, at, nest);
-    loop {
-        let next = after_byte(code, so_far, 46);
-        if next == 0 {
-            return so_far;
-        }
-        so_far = string(kinds, code, next, nest);
+    let mut here = string(kinds, code, at, nest)?;
+    while let Some(next) = after_byte(code, here, b'.') {
+        here = string(kinds, code, next, nest)?;
     }
+    Ok(here)
 }
 
 // A string expression.
 pub fn characters(kinds: &[u8], code: &[u8], at: usize, nest: usize) -> Formed
     ensures { Tells (string_within form nest) kinds.now code.now at result }
 {
-    if attribute_at(code, 84, at) {
-        return referred(kinds, code, at + 2, nest, at, 3);
+    if attribute_at(code, b'T', at) {
+        return referred(kinds, code, at + 2, nest, at, Stand::AfterT);
     }
     strings(kinds, code, at, nest)
 }
 
-// The place behind the spaces that stand at a place.
+// The place behind the spaces that stand at a place. A loop, lexeme by lexeme as the rules' `past_spaces` is: a run of bytes would need a law that leads back to it.
 pub fn past_spaces(code: &[u8], at: usize) -> usize
     ensures { (kinds : Bytes) → toks_at kinds code.now result ≡ past_spaces (toks_at kinds code.now at) }
 {
     let mut here = at;
-    loop {
-        if text_at(code, here) != 32 {
-            return here;
-        }
-        here = here + 1;
+    while text_at(code, here) == b' ' {
+        here += 1;
     }
+    here
 }

@@ -4,8 +4,7 @@ use native.Mathlib.Omega.{arith}
 use mathlib.Core.Path.{◌≡◌, refl, ap, sym, ◌∙◌}
 use mathlib.Core.Bool.{Bool, true, false, not}
 use mathlib.Core.List.{List, [], ◌∷◌, ◌++◌, map, append_assoc}
-use lib.Dec.{eqb}
-use lib.ListN.{length, take, drop, length-append}
+use lib.ListN.{length, length-append}
 use Rattle.text.specs.Bytes.{Bytes}
 use Rattle.rules.specs.Choice.{choose}
 use Rattle.rules.specs.Lexemes.{lexed}
@@ -19,8 +18,9 @@ use Rattle.rules.proofs.Lossless.{fields_back}
 use Rattle.deck.specs.Coding.{two, pair, via, list_of}
 use Rattle.deck.specs.Coders.{string, flag, kind, line, parts_of, macro}
 use Rattle.deck.specs.Slots.{resolved_line, deck_macro}
-use Rattle.declared.specs.Declared.{start_length, start_name}
-use Rattle.declared.proofs.Starts.{start_is}
+use Rattle.std.specs.Prelude.{Option, Some, None, is_some}
+use Rattle.std.specs.Borrow.{Bor}
+use Rattle.declared.specs.Declared.{found}
 use Rattle.operands.proofs.Rest.{Lexes}
 use Rattle.declaring.specs.Declared.{symbols_in}
 use Rattle.declaring.proofs.Symbols.{symbols-few}
@@ -51,17 +51,11 @@ pub operation-short : (p : Bytes) → length (operation_of p) ≤ length p
 unfolding operation_of statement_fields no_fields
 operation-short p = either (λ (f : Fields). length f.operation ≤ length p) (is_remark p) (λ e. omega arith) (λ e. (fields-short p).0)
 
-empty-choice : (b : Bool) (n : Bytes) → is_empty (choose b [] (n ∷ [])) ≡ b
-unfolding choose is_empty
-empty-choice true n = refl
-empty-choice false n = refl
-
--- a name that starts with a variable symbol, by the symbol's length
-pub is-named : (name : Bytes) (size : ℕ) → size ≡ start_length name → not (eqb size 0) ≡ not (is_empty (start_symbol (lexed false name)))
-unfolding start_name
-is-named name size e =
-    ap (λ (n : ℕ). not (eqb n 0)) e
-    ∙ sym (ap (λ (l : List Bytes). not (is_empty l)) (start_is false name) ∙ ap not (empty-choice (eqb (start_length name) 0) (take (start_length name) (drop 1 name))))
+-- a name that starts with a variable symbol
+pub is-named : (o : Option (Bor Bytes)) → is_some o ≡ not (is_empty (found o))
+unfolding is_empty
+is-named None = refl
+is-named (Some n) = refl
 
 few-positionals : (ps : List Lexes) → length (positional_names ps) ≤ length (start_symbols ps)
 unfolding positional_names start_symbols
@@ -81,19 +75,19 @@ abbrev pub keyword_bytes : Bytes → Bytes
 keyword_bytes operand = (list_of (pair string string)).put (keyword_names (divided (lexed true operand)))
 
 -- what is read of a prototype
-pub record Told (p title name operand : Bytes) (size count : ℕ) : Type 0 where
+pub record Told (p title name operand : Bytes) (named : Bool) (count : ℕ) : Type 0 where
   pub title-is : title ≡ operation_of p
   pub name-is : name ≡ (fields_of p).name
   pub operand-is : operand ≡ (fields_of p).operand
-  pub size_is : size ≡ start_length name
+  pub symbol_is : named ≡ not (is_empty (start_symbol (lexed false name)))
   pub count-is : count ≡ length (positional_names (divided (lexed true operand)))
 
-module _ {p title name operand : Bytes} {size count : ℕ} (told : Told p title name operand size count) where
+module _ {p title name operand : Bytes} {named : Bool} {count : ℕ} (told : Told p title name operand named count) where
   abbrev front : Bytes
-  front = title_bytes title (not (eqb size 0)) count
+  front = title_bytes title named count
 
-  named : not (eqb size 0) ≡ not (is_empty (start_symbol (lexed false (fields_of p).name)))
-  named = is-named name size told.size_is ∙ ap (λ (m : Bytes). not (is_empty (start_symbol (lexed false m)))) told.name-is
+  named_is : named ≡ not (is_empty (start_symbol (lexed false (fields_of p).name)))
+  named_is = told.symbol_is ∙ ap (λ (m : Bytes). not (is_empty (start_symbol (lexed false m)))) told.name-is
 
   counts : count ≡ length (positional_names (divided (lexed true (fields_of p).operand)))
   counts = told.count-is ∙ ap (λ (m : Bytes). length (positional_names (divided (lexed true m)))) told.operand-is
@@ -101,9 +95,9 @@ module _ {p title name operand : Bytes} {size count : ℕ} (told : Told p title 
   head-is : front ++ keyword_bytes operand ≡ header_of p
   unfolding header_of names_in operand_parts
   head-is =
-      append_assoc (string.put title) (flag.put (not (eqb size 0)) ++ two.put count) (keyword_bytes operand)
-      ∙ (ap (string.put title ++◌) (append_assoc (flag.put (not (eqb size 0))) (two.put count) (keyword_bytes operand))
-      ∙ (λ i. string.put (told.title-is i) ++ (flag.put (named i) ++ (two.put (counts i) ++ keyword_bytes (told.operand-is i)))))
+      append_assoc (string.put title) (flag.put named ++ two.put count) (keyword_bytes operand)
+      ∙ (ap (string.put title ++◌) (append_assoc (flag.put named) (two.put count) (keyword_bytes operand))
+      ∙ (λ i. string.put (told.title-is i) ++ (flag.put (named_is i) ++ (two.put (counts i) ++ keyword_bytes (told.operand-is i)))))
 
   pub title-short : length title ≤ length p
   title-short = omega (arith, ap length told.title-is, operation-short p)
@@ -115,7 +109,7 @@ module _ {p title name operand : Bytes} {size count : ℕ} (told : Told p title 
   count-short = omega (arith, told.count-is, positionals-few operand, operand_short)
 
   pub front_length : length front ≡ length title + 5
-  front_length = omega (arith, title-length title (not (eqb size 0)) count, counted-length title)
+  front_length = omega (arith, title-length title named count, counted-length title)
 
   pub head-length : length (header_of p) ≡ length front + length (keyword_bytes operand)
   head-length = sym (ap length head-is) ∙ length-append front (keyword_bytes operand)

@@ -14,9 +14,9 @@ pub fn put_header(prototype: &[u8], out: &mut [u8], at: usize) -> usize
 {
     let title = statements::operation_of(prototype);
     let name = written::name_field(prototype);
-    let size = declared::start_length(name);
+    let named = declared::start_symbol(name).is_some();
     let operand = written::operand_field(prototype);
     let count = keywords::positional_count(operand);
-    let end = writing::put_title(out, at, title, size != 0, count);
+    let end = writing::put_title(out, at, title, named, count);
     keywords::put_keywords(operand, out, end)
 }

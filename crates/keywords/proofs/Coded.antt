@@ -1,18 +1,19 @@
 -- Keywords as a deck has them, written one after another. Assumes nothing.
-use Prim.Native.Nat.{ℕ, ◌+◌, ◌-◌, ◌/◌, ◌%◌, ◌≤◌}
+use Prim.Native.Nat.{ℕ, ◌+◌, ◌/◌, ◌%◌}
 use native.Mathlib.Omega.{arith}
+use mathlib.Core.Bool.{true}
 use mathlib.Core.Path.{◌≡◌, refl, ap, sym, ◌∙◌}
-use mathlib.Core.List.{List, [], ◌∷◌, ◌++◌, append_assoc, append-nil}
-use lib.ListN.{length, take, drop, length-append}
+use mathlib.Core.List.{List, [], ◌∷◌, ◌++◌, map, append_assoc, append-nil}
+use lib.ListN.{length, length-append}
 use Rattle.text.specs.Bytes.{Bytes}
-use Rattle.rules.specs.Lexemes.{comma}
+use Rattle.rules.specs.Lexemes.{lexed}
+use Rattle.rules.specs.Library.{keyword_names}
 use Rattle.deck.specs.Coding.{byte, two, pair, put_all, list_of}
 use Rattle.deck.specs.Coders.{string}
 use Rattle.lent.specs.Splice.{splice}
 use Rattle.lent.proofs.Writes.{splice-append}
-use Rattle.parts.specs.Parts.{bare_at}
 use Rattle.keywords.specs.Keywords.{keyword_in, keywords_code}
-use Rattle.keywords.proofs.Parameters.{keywords_from, keywords-on}
+use Rattle.keywords.proofs.Parameters.{keywords-first}
 
 -- one text behind another
 pub then-written : (out : Bytes) (at : ℕ) (s t : Bytes) {first second : Bytes} {next : ℕ} → first ≡ splice out at s → next ≡ at + length s → second ≡ splice first next t
@@ -63,23 +64,25 @@ unfolding keywords_code put_all
 code-append [] ls = refl
 code-append (k ∷ ks) ls = ap ((pair string string).put k ++◌) (code-append ks ls) ∙ sym (append_assoc ((pair string string).put k) (keywords_code ks) (keywords_code ls))
 
--- the first part from `at` on ends at `end`
-module _ (s : Bytes) (at end : ℕ) (h : at ≤ length s) (e : end ≡ at + bare_at comma (drop at s)) where
+-- the first part's keyword and those of the others
+module _ (p : Bytes) {ps qs : List Bytes} (e : ps ≡ p ∷ qs) where
   abbrev first : Bytes
-  first = keywords_code (keyword_in (take (end - at) (drop at s)))
+  first = keywords_code (keyword_in p)
 
   abbrev others : Bytes
-  others = keywords_code (keywords_from s (end + 1))
+  others = keywords_code (keyword_names (map (lexed true) qs))
 
-  code-on : keywords_code (keywords_from s at) ≡ first ++ others
-  code-on = ap keywords_code (keywords-on s at end h e) ∙ code-append (keyword_in (take (end - at) (drop at s))) (keywords_from s (end + 1))
+  code-on : keywords_code (keyword_names (map (lexed true) ps)) ≡ first ++ others
+  code-on =
+      ap (λ (rs : List Bytes). keywords_code (keyword_names (map (lexed true) rs))) e
+      ∙ (ap keywords_code (keywords-first p qs) ∙ code-append (keyword_in p) (keyword_names (map (lexed true) qs)))
 
-  pub code-size : length (keywords_code (keywords_from s at)) ≡ length first + length others
+  pub code-size : length (keywords_code (keyword_names (map (lexed true) ps))) ≡ length first + length others
   code-size = ap length code-on ∙ length-append first others
 
   -- finishing behind the first part's keyword writes what finishing before it does
   pub code-splice : (out : Bytes) (to : ℕ) {new : Bytes} {next : ℕ} → next ≡ to + length first → new ≡ splice out to first
-      → splice new next others ≡ splice out to (keywords_code (keywords_from s at))
+      → splice new next others ≡ splice out to (keywords_code (keyword_names (map (lexed true) ps)))
   code-splice out to n w = (λ i. splice (w i) (n i) others) ∙ (splice-append out to first others ∙ ap (splice out to) (sym code-on))
 
 -- ---- behind their count

@@ -1,5 +1,6 @@
 -- What one part of a prototype's operand is: a positional or a keyword with its default; and keywords as a deck has them. Assumes nothing.
-use Rattle.std.specs.Prelude.{suc, true, List, [], drop}
+use Rattle.std.specs.Prelude.{suc, true, List, [], ◌∷◌, Option, Some, None, drop}
+use Rattle.std.specs.Borrow.{Bor}
 use Rattle.text.specs.Bytes.{Bytes}
 use Rattle.rules.specs.Choice.{choose}
 use Rattle.rules.specs.Lexemes.{lexed, unlexed}
@@ -17,6 +18,11 @@ unfoldable pub keyword_in : Bytes → List (Bytes × Bytes)
 keyword_in part =
     let p = lexed true part in
     choose (has_equals p) (with_default (start_symbol p) (unlexed (drop (suc (equals_at p)) p))) []
+
+-- what was found, as 01 tells it: one keyword with its default, or none
+abbrev pub keyword_found : Option (Bor Bytes × Bor Bytes) → List (Bytes × Bytes)
+keyword_found None = []
+keyword_found (Some k) = (k.0.now, k.1.now) ∷ []
 
 -- the keywords of an operand
 unfoldable pub keywords_in : Bytes → List (Bytes × Bytes)

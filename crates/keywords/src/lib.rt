@@ -1,75 +1,62 @@
 // A prototype's parameters: how many are positionals and keywords, and the keywords with their defaults as a deck has them.
 #![tactic(auto)]
 
-ghost use Rattle.std.specs.Prelude.{◌≡◌, true, ◌+◌, ◌≤◌, ◌<◌, length};
+ghost use Rattle.std.specs.Prelude.{◌≡◌, true, ◌+◌, ◌≤◌, ◌<◌, ltb, length};
+ghost use Rattle.std.specs.Option.{IfSome};
 ghost use Rattle.rules.specs.Lexemes.{lexed};
 ghost use Rattle.rules.specs.Calls.{divided};
 ghost use Rattle.rules.specs.Library.{positional_names, keyword_names};
 ghost use Rattle.deck.specs.Coding.{list_of, pair};
 ghost use Rattle.deck.specs.Coders.{string};
 ghost use Rattle.lent.specs.Splice.{splice};
-ghost use Rattle.keywords.specs.Keywords.{positional_in, keyword_in, keywords_in, keywords_code};
+ghost use Rattle.keywords.specs.Keywords.{positional_in, keyword_in, keyword_found, keywords_in, keywords_code};
 
-// How many positionals the part is: one or none.
-fn positional_in(part: &[u8]) -> usize
-    ensures { result ≡ length (positional_in part.now) }
+use parts::Parts;
+
+// Whether the part is a positional.
+fn is_positional(part: &[u8]) -> bool
+    ensures { result ≡ ltb 0 (length (positional_in part.now)) }
 {
-    let end = parts::bare_at(part, 0, b'=');
-    if end < part.len() {
-        return 0;
+    if operands::has_equals(part) {
+        return false;
     }
-    if declared::start_length(part) == 0 {
-        return 0;
-    }
-    1
+    declared::start_symbol(part).is_some()
 }
 
-// How many keywords the part is: one or none.
-fn keyword_in(part: &[u8]) -> usize
-    ensures { result ≡ length (keyword_in part.now) }
+// The keyword that the part is, and its default.
+fn keyword_in(part: &[u8]) -> Option<(&[u8], &[u8])>
+    ensures value { keyword_found result ≡ keyword_in part.now }
+    ensures within { IfSome result (λ k. (length k.0.now ≤ length part.now) × (length k.1.now ≤ length part.now)) }
 {
     let end = parts::bare_at(part, 0, b'=');
     if part.len() <= end {
-        return 0;
+        return None;
     }
-    if declared::start_length(part) == 0 {
-        return 0;
-    }
-    1
+    let name = declared::start_symbol(part)?;
+    Some((name, &part[end + 1..]))
+}
+
+// Whether the part is a keyword.
+fn is_keyword(part: &[u8]) -> bool
+    ensures { result ≡ ltb 0 (length (keyword_in part.now)) }
+{
+    keyword_in(part).is_some()
 }
 
 // How many positionals the operand declares.
 pub fn positional_count(operand: &[u8]) -> usize
     ensures { result ≡ length (positional_names (divided (lexed true operand.now))) }
 {
-    if operand.len() == 0 {
-        return 0;
-    }
-    let mut at = 0;
-    let mut told = 0;
-    while at <= operand.len() {
-        let end = parts::bare_at(operand, at, b',');
-        told += positional_in(&operand[at..end]);
-        at = end + 1;
-    }
-    told
+    Parts::of(operand)
+        .filter(|part| is_positional(part))
+        .count()
 }
 
 // How many keywords the operand declares.
 pub fn keyword_count(operand: &[u8]) -> usize
     ensures { result ≡ length (keyword_names (divided (lexed true operand.now))) }
 {
-    if operand.len() == 0 {
-        return 0;
-    }
-    let mut at = 0;
-    let mut told = 0;
-    while at <= operand.len() {
-        let end = parts::bare_at(operand, at, b',');
-        told += keyword_in(&operand[at..end]);
-        at = end + 1;
-    }
-    told
+    Parts::of(operand).filter(|part| is_keyword(part)).count()
 }
 
 // The text with its length before it, written from `at` on; answers where it ends.
@@ -89,16 +76,13 @@ fn put_keyword(part: &[u8], out: &mut [u8], at: usize) -> usize
     ensures value { result ≡ at + length (keywords_code (keyword_in part.now)) }
     ensures out_after { out.new ≡ splice out.old at (keywords_code (keyword_in part.now)) }
 {
-    let end = parts::bare_at(part, 0, b'=');
-    if part.len() <= end {
-        return at;
+    match keyword_in(part) {
+        Some((name, default)) => {
+            let next = put_string(name, out, at);
+            put_string(default, out, next)
+        }
+        None => at,
     }
-    let size = declared::start_length(part);
-    if size == 0 {
-        return at;
-    }
-    let next = put_string(&part[1..size + 1], out, at);
-    put_string(&part[end + 1..], out, next)
 }
 
 // The keywords of all parts, written from `at` on; answers where they end.
@@ -107,15 +91,9 @@ fn put_parts(operand: &[u8], out: &mut [u8], at: usize) -> usize
     ensures value { result ≡ at + length (keywords_code (keywords_in operand.now)) }
     ensures out_after { out.new ≡ splice out.old at (keywords_code (keywords_in operand.now)) }
 {
-    if operand.len() == 0 {
-        return at;
-    }
-    let mut i = 0;
     let mut to = at;
-    while i <= operand.len() {
-        let end = parts::bare_at(operand, i, b',');
-        to = put_keyword(&operand[i..end], out, to);
-        i = end + 1;
+    for part in Parts::of(operand) {
+        to = put_keyword(part, out, to);
     }
     to
 }

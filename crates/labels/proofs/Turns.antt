@@ -1,22 +1,25 @@
 -- Searches over lines by place: what one more line decides. These are the steps of every loop over lines. Assumes nothing.
 use Prim.Native.Nat.{ℕ, suc, ◌+◌, ◌-◌, ◌≤◌, ◌<◌}
-use native.Mathlib.Numerals.{add-one}
 use native.Mathlib.Omega.{arith}
 use mathlib.Core.Path.{◌≡◌, refl, ap, sym, ◌∙◌}
-use mathlib.Core.Bool.{Bool, true, false, ◌||◌}
+use mathlib.Core.Bool.{Bool, true, false, not, cond}
 use mathlib.Core.List.{List, [], ◌∷◌}
 use lib.Dec.{ltb}
-use lib.ListN.{length, take, drop, length-drop}
-use lib.Seq.{length-take-le}
-use borrow.Author.Tests.{ltb-true, ltb-false}
+use lib.ListN.{length, take, drop}
+use borrow.Author.Tests.{ltb-true, ltb-false, le-ltb}
 use Rattle.text.specs.Bytes.{Bytes, same}
 use Rattle.rules.specs.Choice.{choose, any}
 use Rattle.rules.specs.Fields.{lines_of}
 use Rattle.rules.specs.Library.{operation_of, is_named, line_named}
 use Rattle.rules.proofs.Choices.{chosen, passed_over, either}
+use Rattle.std.specs.List.{prefix_len}
 use Rattle.lines.specs.Ends.{in_line, line_end}
-use Rattle.lines.proofs.Found.{line-found, no-line}
-use Rattle.statements.proofs.Symbols.{run-within}
+use Rattle.lines.proofs.Found.{no-line}
+pub use Rattle.lines.proofs.Turns.{turn, past-within, past-lines}
+use Rattle.lines.proofs.Turns.{end-within, line-length}
+use Rattle.rules.proofs.Scanning.{run-end}
+use Rattle.line_reader.specs.declared.LineReader.{LineReader}
+use Rattle.line_reader.specs.Reading.{next_at, has_line, next_line, behind_line}
 use Rattle.labels.specs.Searches.{past_newline, is_operation, up_to, size_of, behind}
 
 -- behind the last line there is none
@@ -24,10 +27,6 @@ module _ (file : Bytes) (at : ℕ) (h : length file ≤ at) where
   pub none_named : (test : Bytes → Bool) → false ≡ any test (lines_of (drop at file))
   unfolding any
   none_named test = sym (ap (any test) (no-line file at h))
-
-  pub none-counted : (symbol : Bytes) (n : ℕ) → n ≡ n + line_named symbol (lines_of (drop at file))
-  unfolding line_named
-  none-counted symbol n = let e = ap (line_named symbol) (no-line file at h) in omega (arith, e)
 
   pub none-behind : (test : Bytes → Bool) → behind test file at ≡ at
   unfolding behind
@@ -37,6 +36,17 @@ module _ (file : Bytes) (at : ℕ) (h : length file ≤ at) where
   unfolding past_newline line_end
   past_end = either (λ n. length file ≤ n) (ltb (line_end file at) (length file)) (λ t. omega (arith, h)) (λ t. omega (arith, h))
 
+-- the lines before the first that a symbol names
+first-counted : (b : Bool) (m n : ℕ) → m ≡ n → cond (not b) (1 + m) 0 ≡ choose b 0 (suc n)
+unfolding choose
+first-counted true m n e = refl
+first-counted false m n e = omega (arith, e)
+
+pub named-count : (symbol : Bytes) (ls : List Bytes) → prefix_len (λ l. not (is_named symbol l)) ls ≡ line_named symbol ls
+unfolding line_named
+named-count symbol [] = refl
+named-count symbol (l ∷ ls) = first-counted (is_named symbol l) _ _ (named-count symbol ls)
+
 -- an operation that was compared
 pub operation-is : (word o l : Bytes) {b : Bool} → o ≡ operation_of l → same o word ≡ b → is_operation word l ≡ b
 unfolding is_operation
@@ -44,66 +54,68 @@ operation-is word o l e t = ap (λ x. same x word) (sym e) ∙ t
 
 -- the line that starts at `at` ends at `end`
 module _ (file : Bytes) (at end : ℕ) (h : at < length file) (e : end ≡ line_end file at) where
-  pub turn : lines_of (drop at file) ≡ take (end - at) (drop at file) ∷ lines_of (drop (end + 1) file)
-  turn = line-found file at h ∙ (λ i. take (sym e i - at) (drop at file) ∷ lines_of (drop ((sym (add-one (line_end file at)) ∙ ap (◌+ 1) (sym e)) i) file))
-
-  end-within : (at ≤ end) × (end ≤ length file)
-  unfolding line_end
-  end-within = let w = run-within in_line (drop at file) in let n = length-drop at file in (omega (arith, e), omega (arith, e, w, n))
-
-  line-length : length (take (end - at) (drop at file)) ≡ end - at
-  line-length = length-take-le (end - at) (drop at file) (let n = length-drop at file in omega (arith, end-within.1, n))
-
-  module _ (test : Bytes → Bool) where
-    pub any_found : test (take (end - at) (drop at file)) ≡ true → true ≡ any test (lines_of (drop at file))
-    unfolding any
-    any_found t = sym (ap (any test) turn ∙ ap (λ b. b || any test (lines_of (drop (end + 1) file))) t)
-
-    pub any_next : test (take (end - at) (drop at file)) ≡ false → any test (lines_of (drop at file)) ≡ any test (lines_of (drop (end + 1) file))
-    unfolding any
-    any_next t = ap (any test) turn ∙ ap (λ b. b || any test (lines_of (drop (end + 1) file))) t
-
-  module _ (symbol : Bytes) (n : ℕ) where
-    pub count-found : is_named symbol (take (end - at) (drop at file)) ≡ true → n ≡ n + line_named symbol (lines_of (drop at file))
-    unfolding line_named
-    count-found t = let z = ap (line_named symbol) turn ∙ chosen 0 (suc (line_named symbol (lines_of (drop (end + 1) file)))) t in omega (arith, z)
-
-    pub count_next : is_named symbol (take (end - at) (drop at file)) ≡ false
-        → n + line_named symbol (lines_of (drop at file)) ≡ n + 1 + line_named symbol (lines_of (drop (end + 1) file))
-    unfolding line_named
-    count_next t = let z = ap (line_named symbol) turn ∙ passed_over 0 (suc (line_named symbol (lines_of (drop (end + 1) file)))) t in omega (arith, z)
-
-  -- a place behind the line, inside the file or at its end
-  pub past-within : (at < past_newline file end) × (past_newline file end ≤ length file)
-  unfolding past_newline
-  past-within =
-      either (λ n. (at < n) × (n ≤ length file)) (ltb end (length file)) (λ t. let l = ltb-true end (length file) t in (omega (arith, end-within.0), omega arith))
-      (λ t. let l = ltb-false end (length file) t in (omega (arith, end-within.1), end-within.1))
-
-  pub past-lines : lines_of (drop (end + 1) file) ≡ lines_of (drop (past_newline file end) file)
-  unfolding past_newline
-  past-lines =
-      either (λ n. lines_of (drop (end + 1) file) ≡ lines_of (drop n file)) (ltb end (length file)) (λ t. refl)
-      (λ t. let l = ltb-false end (length file) t in no-line file (end + 1) (omega arith) ∙ sym (no-line file end l))
-
   module _ (test : Bytes → Bool) where
     abbrev rest : List Bytes
     rest = up_to test (lines_of (drop (end + 1) file))
 
     size_is : {x : List Bytes} → choose (test (take (end - at) (drop at file))) [] rest ≡ x → size_of (up_to test (lines_of (drop at file))) ≡ suc (end - at) + size_of x
     unfolding up_to size_of
-    size_is q = ap (λ ls. size_of (up_to test ls)) turn ∙ (λ i. suc (line-length i) + size_of (q i))
+    size_is q = ap (λ ls. size_of (up_to test ls)) (turn file at end h e) ∙ (λ i. suc (line-length file at end h e i) + size_of (q i))
 
-    pub behind-found : test (take (end - at) (drop at file)) ≡ true → behind test file at ≡ past_newline file end
+    behind-found : test (take (end - at) (drop at file)) ≡ true → behind test file at ≡ past_newline file end
     unfolding behind past_newline size_of
     behind-found t =
         let z = size_is (chosen [] rest t) in
-        either (λ n. behind test file at ≡ n) (ltb end (length file)) (λ u. let l = ltb-true end (length file) u in omega (arith, z, end-within.0))
-        (λ u. let l = ltb-false end (length file) u in omega (arith, z, end-within.0, end-within.1))
+        let w = end-within file at end h e in
+        either (λ n. behind test file at ≡ n) (ltb end (length file)) (λ u. let l = ltb-true end (length file) u in omega (arith, z, w.0))
+        (λ u. let l = ltb-false end (length file) u in omega (arith, z, w.0, w.1))
 
-    pub behind-next : test (take (end - at) (drop at file)) ≡ false → behind test file at ≡ behind test file (past_newline file end)
+    behind-next : test (take (end - at) (drop at file)) ≡ false → behind test file at ≡ behind test file (past_newline file end)
     unfolding behind past_newline
     behind-next t =
         let z = size_is (passed_over [] rest t) in
-        either (λ n. behind test file at ≡ behind test file n) (ltb end (length file)) (λ u. let l = ltb-true end (length file) u in omega (arith, z, end-within.0))
-        (λ u. let l = ltb-false end (length file) u in omega (arith, z, end-within.0, end-within.1))
+        let w = end-within file at end h e in
+        either (λ n. behind test file at ≡ behind test file n) (ltb end (length file)) (λ u. let l = ltb-true end (length file) u in omega (arith, z, w.0))
+        (λ u. let l = ltb-false end (length file) u in omega (arith, z, w.0, w.1))
+
+-- a reader that was at s handed out `line` and is at t
+module _ (word : Bytes) (s t : LineReader) (line operation : Bytes) (h : (has_line s ≡ true) × (line ≡ next_line s)) (moved : t ≡ behind_line s) (o : operation ≡ operation_of line) where
+  abbrev src : Bytes
+  src = s.src.now
+
+  there : s.at < length src
+  there = ltb-true s.at (length src) h.0
+
+  moved-to : t.at ≡ past_newline src (line_end src s.at)
+  unfolding next_at
+  moved-to = ap (λ (r : LineReader). r.at) moved
+
+  tested : (b : Bool) → same operation word ≡ b → is_operation word (next_line s) ≡ b
+  tested b e = ap (is_operation word) (sym h.1) ∙ operation-is word operation line o e
+
+  pub reader-source : t.src.now ≡ src
+  reader-source = ap (λ (r : LineReader). r.src.now) moved
+
+  pub reader-within : (s.at < t.at) × (t.at ≤ length src)
+  reader-within = let w = past-within src s.at (line_end src s.at) there refl in (omega (arith, moved-to, w.0), omega (arith, moved-to, w.1))
+
+  pub reader-found : same operation word ≡ true → t.at ≡ behind (is_operation word) src s.at
+  reader-found e = moved-to ∙ sym (behind-found src s.at (line_end src s.at) there refl (is_operation word) (tested true e))
+
+  pub reader-next : same operation word ≡ false → behind (is_operation word) src s.at ≡ behind (is_operation word) src t.at
+  reader-next e = behind-next src s.at (line_end src s.at) there refl (is_operation word) (tested false e) ∙ ap (behind (is_operation word) src) (sym moved-to)
+
+-- one that has none left
+module _ (s t : LineReader) (h : has_line s ≡ false) (moved : t ≡ behind_line s) where
+  ended : length s.src.now ≤ s.at
+  ended = ltb-false s.at (length s.src.now) h
+
+  pub reader-stays : t.at ≡ s.at
+  unfolding next_at past_newline line_end
+  reader-stays =
+      let stop = run-end in_line s.src.now s.at ended in
+      ap (λ (r : LineReader). r.at) moved
+      ∙ (passed_over _ _ (le-ltb _ _ (omega (arith, ended, stop))) ∙ stop)
+
+  pub reader-none : (test : Bytes → Bool) → t.at ≡ behind test s.src.now s.at
+  reader-none test = reader-stays ∙ sym (none-behind s.src.now s.at ended test)

@@ -1,18 +1,11 @@
 -- Lines up to one that passes a test, and where they end, by place. What these places mean for 01's macros is proofs/Macros.antt. Assumes nothing.
-use Rattle.std.specs.Prelude.{ℕ, suc, ◌+◌, ◌-◌, min, Bool, List, [], ◌∷◌, ltb, length, take, drop}
+use Rattle.std.specs.Prelude.{ℕ, suc, ◌+◌, ◌-◌, min, Bool, List, [], ◌∷◌, length, drop}
 use Rattle.text.specs.Bytes.{Bytes, same}
 use Rattle.rules.specs.Choice.{choose}
 use Rattle.rules.specs.Fields.{lines_of}
 use Rattle.rules.specs.Library.{operation_of, is_macro, is_mend}
-use Rattle.lines.specs.Ends.{line_end}
-
--- the line that starts at `at`
-abbrev pub line_at : Bytes → ℕ → Bytes
-line_at file at = take (line_end file at - at) (drop at file)
-
--- behind a line that ends at `end`: behind its newline, if it has one
-unfoldable pub past_newline : Bytes → ℕ → ℕ
-past_newline file end = choose (ltb end (length file)) (end + 1) end
+pub use Rattle.lines.specs.Ends.{line_at}
+unfoldable pub use Rattle.lines.specs.Ends.{past_newline}
 
 unfoldable pub is_operation : Bytes → Bytes → Bool
 is_operation word l = same (operation_of l) word

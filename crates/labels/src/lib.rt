@@ -8,31 +8,21 @@ ghost use Rattle.rules.specs.Library.{is_named, line_named};
 ghost use Rattle.rules.specs.Faults.{is_named_up_to_mend, is_used_twice, is_bad_target};
 ghost use Rattle.labels.specs.Searches.{past_newline, is_operation, behind, body_end, prototype_start};
 
-// Behind the newline at `end`; `end` itself where the file ends there.
-pub fn past_newline(file: &[u8], end: usize) -> usize
-    ensures { result ≡ past_newline file.now end }
-{
-    if end < file.len() {
-        return end + 1;
-    }
-    end
-}
+use line_reader::LineReader;
+pub use lines::past_newline;
 
 // Behind the first line from `at` on that has this operation; the file's end where none has.
 fn behind(file: &[u8], at: usize, word: &[u8]) -> usize
     ensures value { result ≡ behind (is_operation word.now) file.now at }
     ensures lower_bound { (at ≤ result) × (result ≤ at + (length file.now - at)) }
 {
-    let mut next = at;
-    while next < file.len() {
-        let end = lines::line_end(file, next);
-        let operation = statements::operation_of(&file[next..end]);
-        next = past_newline(file, end);
-        if lent::equal(operation, word) {
-            return next;
+    let mut reader = LineReader { src: file, at };
+    while let Some(line) = reader.next_line() {
+        if lent::equal(statements::operation_of(line), word) {
+            break;
         }
     }
-    next
+    reader.at
 }
 
 // Where the body of a macro that starts at `at` ends: behind its MEND line, or the library's end.
@@ -55,32 +45,16 @@ pub fn prototype_start(library: &[u8], at: usize) -> usize
 pub fn any_named(lines: &[u8], symbol: &[u8]) -> bool
     ensures { result ≡ any (is_named symbol.now) (lines_of lines.now) }
 {
-    let mut at = 0;
-    while at < lines.len() {
-        let end = lines::line_end(lines, at);
-        if statements::is_named(&lines[at..end], symbol) {
-            return true;
-        }
-        at = end + 1;
-    }
-    false
+    LineReader::new(lines).any(|line| statements::is_named(line, symbol))
 }
 
 // The number of the first line that the sequence symbol names, counted from 0; how many lines there are where it names none.
 pub fn line_named(lines: &[u8], symbol: &[u8]) -> usize
     ensures { result ≡ line_named symbol.now (lines_of lines.now) }
 {
-    let mut at = 0;
-    let mut number = 0;
-    while at < lines.len() {
-        let end = lines::line_end(lines, at);
-        if statements::is_named(&lines[at..end], symbol) {
-            return number;
-        }
-        number += 1;
-        at = end + 1;
-    }
-    number
+    LineReader::new(lines)
+        .take_while(|line| !statements::is_named(line, symbol))
+        .count()
 }
 
 // Whether the sequence symbol names one of the lines up to MEND, or up to the last one.

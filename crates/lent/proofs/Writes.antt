@@ -1,12 +1,13 @@
--- Bytes written over a lent buffer: what is written, what stays, and a loop's turns by what finishing from here gives. Assumes nothing.
-use Prim.Native.Nat.{ℕ, suc, ◌+◌, ◌-◌, ◌≤◌, ◌<◌}
+-- Bytes written over a lent buffer: what is written, and what stays. Assumes nothing.
+use Prim.Native.Nat.{ℕ, suc, ◌+◌, ◌-◌, ◌≤◌}
 use native.Mathlib.Nat.{add-zero, add-suc, suc-add, zero-add}
 use native.Mathlib.Numerals.{add-one}
 use native.Mathlib.Omega.{arith}
-use mathlib.Core.Path.{◌≡◌, refl, ap, ◌∙◌}
+use mathlib.Core.Path.{◌≡◌, refl, ap, sym, ◌∙◌}
 use mathlib.Core.List.{[], ◌∷◌, ◌++◌, append_assoc}
-use lib.ListN.{length, get_or, take, drop, set, replicate, length-set, drop_of_length-le}
-use lib.Seq.{drop-cons, take-append_seam, take-set-le, drop-set-lt, drop_at, length-take-le, sets, sets-eq}
+use lib.ListN.{length, take, drop, set, length-set}
+use lib.Seq.{drop-drop, take-append_seam, take-set-le, drop-set-lt, drop_at, length-take-le, sets, sets-eq}
+use borrow.Rule.Slice.PartMut.{put_mid}
 use Rattle.text.specs.Bytes.{Bytes}
 use Rattle.lent.specs.Splice.{splice}
 
@@ -38,29 +39,6 @@ four-written out at a b c d =
     let g : at + 3 ≡ suc (suc (suc at)) = omega arith in
     rw (e, f, g)
 
--- a turn of `fill`, and its end
-module _ (out : Bytes) (at byte count i : ℕ) where
-  pub fill_on : i < count → splice (set out (at + i) byte) (at + (i + 1)) (replicate (count - (i + 1)) byte) ≡ splice out (at + i) (replicate (count - i) byte)
-  unfolding splice
-  fill_on h =
-      let e : count - i ≡ suc (count - (i + 1)) = omega arith in
-      let f : at + (i + 1) ≡ suc (at + i) = omega arith in
-      rw (e, f)
-
-  pub fill_end : i ≡ count → splice out (at + i) (replicate (count - i) byte) ≡ out
-  unfolding splice
-  fill_end e = let z : count - i ≡ 0 = omega arith in rw z
-
--- a turn of `copy`, and its end
-module _ (out s : Bytes) (at i : ℕ) where
-  pub copy-on : i < length s → splice (set out (at + i) (get_or s i 0)) (at + (i + 1)) (drop (i + 1) s) ≡ splice out (at + i) (drop i s)
-  unfolding splice
-  copy-on h = let f : at + (i + 1) ≡ suc (at + i) = omega arith in rw (drop-cons s i 0 h, f, add-one)
-
-  pub copy-end : length s ≤ i → splice out (at + i) (drop i s) ≡ out
-  unfolding splice
-  copy-end h = rw (drop_of_length-le s h)
-
 -- ---- what is written, and what stays
 
 splice-sets : (out : Bytes) (at : ℕ) (s : Bytes) → splice out at s ≡ sets out at s
@@ -88,6 +66,13 @@ module _ (out : Bytes) (at : ℕ) (s : Bytes) (h : at + length s ≤ length out)
 
   pub splice-read : take (length s) (drop at (splice out at s)) ≡ s
   splice-read = ap (take (length s)) splice-drop ∙ take-append_seam s (drop (at + length s) out)
+
+-- `s` put in place of as many bytes, as std's writes to a part of a slice leave it
+pub put-part : (out s : Bytes) (at n : ℕ) → n ≡ length s → at + n ≤ length out → put_mid at (at + n - at) out s ≡ splice out at s
+put-part out s at n e h =
+    let k : at + n - at ≡ length s = omega arith in
+    ap (λ (m : ℕ). take at out ++ (s ++ drop m (drop at out))) k
+    ∙ (ap (λ (t : Bytes). take at out ++ (s ++ t)) (drop-drop (length s) at out) ∙ sym (splice-is out at s (omega arith)))
 
 pub splice-whole : (out s : Bytes) → length s ≤ length out → splice out 0 s ≡ s ++ drop (length s) out
 splice-whole out s h = splice-is out 0 s (omega arith) ∙ ap (λ (n : ℕ). s ++ drop n out) (zero-add (length s))

@@ -2,8 +2,8 @@
 use Prim.Native.Nat.{ℕ, suc, ◌+◌, ◌-◌, ◌≤◌, ◌<◌}
 use native.Mathlib.Omega.{arith}
 use mathlib.Core.Path.{◌≡◌, refl, ap, sym, ◌∙◌}
-use mathlib.Core.Bool.{true, false, not}
-use mathlib.Core.List.{[], ◌∷◌}
+use mathlib.Core.Bool.{Bool, true, false, not}
+use mathlib.Core.List.{List, [], ◌∷◌}
 use lib.Dec.{eqb}
 use lib.ListN.{length, take, drop, length-drop, drop_of_length-le}
 use lib.Seq.{drop-drop}
@@ -52,3 +52,19 @@ module _ (file : Bytes) (at : ℕ) where
   pub no-line : length file ≤ at → lines_of (drop at file) ≡ []
   unfolding lines_of
   no-line h = ap lines_of (drop_of_length-le file h)
+
+first-longer : (c : ℕ) (ls : List Bytes) (n : ℕ) → length ls ≤ n → length (on_first c ls) ≤ suc n
+unfolding on_first
+first-longer c [] n h = omega arith
+first-longer c (l ∷ ls) n h = omega (arith, h)
+
+one-longer : (c : ℕ) (ls : List Bytes) (b : Bool) (n : ℕ) → length ls ≤ n → length (choose b ([] ∷ ls) (on_first c ls)) ≤ suc n
+unfolding choose
+one-longer c ls true n h = omega (arith, h)
+one-longer c ls false n h = first-longer c ls n h
+
+-- no more lines than bytes
+pub lines-few : (s : Bytes) → length (lines_of s) ≤ length s
+unfolding lines_of
+lines-few [] = omega arith
+lines-few (c ∷ s) = one-longer c (lines_of s) (eqb c newline) (length s) (lines-few s)

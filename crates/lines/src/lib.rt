@@ -2,7 +2,7 @@
 #![tactic(auto)]
 
 ghost use Rattle.std.specs.Prelude.{◌≡◌, ◌+◌, ◌-◌, ◌≤◌, length};
-ghost use Rattle.lines.specs.Ends.{line_end};
+ghost use Rattle.lines.specs.Ends.{line_end, past_newline};
 
 // What ends a line.
 const NEWLINE: u8 = b'\n';
@@ -12,12 +12,15 @@ pub fn line_end(file: &[u8], at: usize) -> usize
     ensures value { result ≡ line_end file.now at }
     ensures lower_bound { (at ≤ result) × (result ≤ at + (length file.now - at)) }
 {
-    let mut i = at;
-    while i < file.len() {
-        if file[i] == NEWLINE {
-            return i;
-        }
-        i += 1;
+    lent::run_end(file, at, |c| c != NEWLINE)
+}
+
+// Behind the newline at `end`; `end` itself where the file ends there.
+pub fn past_newline(file: &[u8], end: usize) -> usize
+    ensures { result ≡ past_newline file.now end }
+{
+    if end < file.len() {
+        return end + 1;
     }
-    i
+    end
 }

@@ -1,4 +1,5 @@
-// Macros in a deck: one macro's bytes, those of all macros of a library, and the whole deck.
+// Macros in a deck: one macro's bytes, those of all macros of a library, and the whole deck. The tables are separate slices, since each is written
+// (memory is fixed, and one struct of `&mut` slices would be taken apart and put together again at each call).
 #![tactic(auto)]
 
 ghost use Rattle.std.specs.Prelude.{◌≡◌, List, map, ◌+◌, ◌-◌, ◌≤◌, ◌<◌, length, take, drop};
@@ -11,24 +12,24 @@ ghost use Rattle.lent.specs.Splice.{splice};
 ghost use Rattle.decks.specs.Decks.{macro_put, macros_put, front_of};
 ghost use Rattle.macros.specs.Macros.{globals_of_library, macro_of, Holds, globals_at, Lent, parts_put, Parts, tables_put, Tabled, Writable};
 
+use names::Names;
+
 // A macro's bytes by its prototype, the kinds of its locals and the tables of its names, from `at` on; answers where they end.
 fn put_parts(
     prototype: &[u8],
     body: &[u8],
     kinds: &[u8],
-    own: &[u8],
-    global: &[u8],
-    shared: &[u8],
+    names: Names,
     code: &mut [u8],
     out: &mut [u8],
     at: usize,
 ) -> usize
-    requires { Parts prototype.now body.now kinds.now own.now global.now shared.now code.old out.old at }
-    ensures { (ks : List Set) → kinds.now ≡ map (λ k. number_of (symbol k)) ks → (result ≡ at + length (parts_put prototype.now ks own.now global.now shared.now body.now)) × (out.new ≡ splice out.old at (parts_put prototype.now ks own.now global.now shared.now body.now)) }
+    requires { Parts prototype.now body.now kinds.now names.own.now names.global.now names.shared.now code.old out.old at }
+    ensures { (ks : List Set) → kinds.now ≡ map (λ k. number_of (symbol k)) ks → (result ≡ at + length (parts_put prototype.now ks names.entry.own.now names.entry.global.now names.entry.shared.now body.now)) × (out.new ≡ splice out.old at (parts_put prototype.now ks names.entry.own.now names.entry.global.now names.entry.shared.now body.now)) }
 {
     let head = headers::put_header(prototype, out, at);
     let end = writing::put_kinds(out, head, kinds);
-    bodies::put_body(body, own, global, shared, code, out, end)
+    bodies::put_body(body, names, code, out, end)
 }
 
 // The same by whole tables: a macro with so many parameters, and the rows that its names have.
@@ -37,28 +38,28 @@ fn put_tables(
     body: &[u8],
     parameters: usize,
     rows: collecting::Rows,
-    own: &[u8],
-    global: &[u8],
-    shared: &[u8],
+    names: Names,
     kinds: &[u8],
     code: &mut [u8],
     out: &mut [u8],
     at: usize,
 ) -> usize
-    requires { Tabled prototype.now body.now parameters rows own.now global.now shared.now kinds.now code.old out.old at }
-    ensures { (ks : List Set) → take (rows.own - parameters) (drop parameters kinds.now) ≡ map (λ k. number_of (symbol k)) ks → (result ≡ at + length (tables_put prototype.now ks rows own.now global.now shared.now body.now)) × (out.new ≡ splice out.old at (tables_put prototype.now ks rows own.now global.now shared.now body.now)) }
+    requires { Tabled prototype.now body.now parameters rows names.own.now names.global.now names.shared.now kinds.now code.old out.old at }
+    ensures { (ks : List Set) → take (rows.own - parameters) (drop parameters kinds.now) ≡ map (λ k. number_of (symbol k)) ks → (result ≡ at + length (tables_put prototype.now ks rows names.entry.own.now names.entry.global.now names.entry.shared.now body.now)) × (out.new ≡ splice out.old at (tables_put prototype.now ks rows names.entry.own.now names.entry.global.now names.entry.shared.now body.now)) }
 {
-    let names = rows.own;
-    let mine = names * 8;
+    let named = rows.own;
+    let mine = named * 8;
     let theirs = rows.global * 8;
     let ours = rows.shared * 8;
     put_parts(
         prototype,
         body,
-        &kinds[parameters..names],
-        &own[..mine],
-        &global[..theirs],
-        &shared[..ours],
+        &kinds[parameters..named],
+        Names {
+            own: &names.own[..mine],
+            global: &names.global[..theirs],
+            shared: &names.shared[..ours],
+        },
         code,
         out,
         at,
@@ -90,8 +91,13 @@ pub fn put_macro(
         shared: globals,
     };
     let rows = collecting::declare_body(body, first, own, global, shared, kinds);
+    let names = Names {
+        own,
+        global,
+        shared,
+    };
     put_tables(
-        prototype, body, parameters, rows, own, global, shared, kinds, code, out, at,
+        prototype, body, parameters, rows, names, kinds, code, out, at,
     )
 }
 
@@ -114,17 +120,10 @@ pub fn put_macros(
 {
     let mut next = 0;
     let mut to = at;
-    while next < library.len() {
-        let start = labels::prototype_start(library, next);
-        if library.len() <= start {
-            return to;
-        }
-        let end = lines::line_end(library, start);
-        let body = labels::past_newline(library, end);
-        next = labels::body_end(library, body);
+    while let Some(found) = decks::next_macro(library, next) {
         to = put_macro(
-            &library[start..end],
-            &library[body..next],
+            found.prototype,
+            found.body,
             globals,
             own,
             global,
@@ -134,6 +133,7 @@ pub fn put_macros(
             out,
             to,
         );
+        next = found.next;
     }
     to
 }

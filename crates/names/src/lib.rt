@@ -7,14 +7,22 @@ ghost use Rattle.deck.specs.Slots.{system_slot};
 ghost use Rattle.deck.specs.Coders.{slot_code, no_code};
 ghost use Rattle.names.specs.Names.{name_in, names_in, slot_byte, titles_in, padded};
 
+// The byte of a name that is not known.
+pub const UNKNOWN: u8 = 254;
+
+// The tables that tell what a variable symbol is: a macro's own names, those of its GBL statements, and the library's globals.
+#[derive(Clone, Copy)]
+pub struct Names<'a> {
+    pub own: &'a [u8],
+    pub global: &'a [u8],
+    pub shared: &'a [u8],
+}
+
 // The length that a row's first byte tells: at most 7.
 fn size(byte: u8) -> usize
     ensures { result ≡ min byte 7 }
 {
-    if byte < 7 {
-        return byte as usize;
-    }
-    7
+    usize::from(byte.min(7))
 }
 
 // The name in row k.
@@ -27,20 +35,18 @@ pub fn name_at(table: &[u8], k: usize) -> &[u8]
     &table[start..end]
 }
 
-// The number of the first row that holds the name, or the number of rows.
+// The number of the first row that holds the name, or the number of rows: a new name's row is the one behind the last, as in the rules' `place_among`.
 pub fn place(table: &[u8], name: &[u8]) -> usize
     ensures { result ≡ place_among (names_in table.now) name.now }
 {
     let rows = table.len() / 8;
-    let mut k = 0;
-    while k < rows {
+    for k in 0..rows {
         let row = name_at(table, k);
         if lent::equal(row, name) {
             return k;
         }
-        k += 1;
     }
-    k
+    rows
 }
 
 // The code of a place, counted from `first` on; 255 where it is no byte.
@@ -54,7 +60,7 @@ fn code(first: usize, place: usize) -> u8
     255
 }
 
-// The byte of a system symbol; 254 for any other name, which is not known.
+// The byte of a system symbol; any other name is not known.
 fn system_byte(name: &[u8]) -> u8
     ensures { result ≡ min (slot_code (system_slot name.now)) no_code }
 {
@@ -67,19 +73,19 @@ fn system_byte(name: &[u8]) -> u8
     if lent::equal(name, b"SYSECT") {
         return 226;
     }
-    254
+    UNKNOWN
 }
 
-// The byte that a variable symbol is in a deck: by a macro's own names, the names of its GBL statements, and the library's globals.
-pub fn slot_byte(name: &[u8], own: &[u8], global: &[u8], shared: &[u8]) -> u8
-    ensures { result ≡ slot_byte own.now global.now shared.now name.now }
+// The byte that a variable symbol is in a deck, by the tables of names.
+pub fn slot_byte(name: &[u8], names: Names) -> u8
+    ensures { result ≡ slot_byte names.entry.own.now names.entry.global.now names.entry.shared.now name.now }
 {
-    let mine = place(own, name);
-    if mine < own.len() / 8 {
+    let mine = place(names.own, name);
+    if mine < names.own.len() / 8 {
         return code(128, mine);
     }
-    if place(global, name) < global.len() / 8 {
-        return code(192, place(shared, name));
+    if place(names.global, name) < names.global.len() / 8 {
+        return code(192, place(names.shared, name));
     }
     system_byte(name)
 }
@@ -95,7 +101,8 @@ fn padded_byte(name: &[u8], i: usize) -> u8
     b' '
 }
 
-// The number of the first row that is the name with blanks behind it, or the number of rows.
+// The number of the first row that is the name with blanks behind it, or the number of rows. 01 names this form: labelled nested loops over macros and name
+// bytes, broken out with the macro's number.
 pub fn find_macro(table: &[u8], name: &[u8]) -> usize
     ensures { result ≡ place_among (titles_in table.now) (padded name.now) }
 {

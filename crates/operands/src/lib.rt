@@ -1,14 +1,17 @@
-// The parts of an operand, divided at its commas outside quotes and parentheses: those of a prototype or a declaration.
+// The parts of an operand, divided at its commas outside quotes and parentheses: those of a prototype or a declaration; and the symbols that they start with.
 #![tactic(auto)]
 
-ghost use Rattle.std.specs.Prelude.{◌≡◌, true, false, map, ◌+◌, ◌-◌, length, drop};
+ghost use Rattle.std.specs.Prelude.{◌≡◌, true, false, length};
+ghost use Rattle.std.specs.Iterator.{YieldsFirstRef, item_count};
 ghost use Rattle.text.specs.Bytes.{same};
 ghost use Rattle.rules.specs.Choice.{every, any};
 ghost use Rattle.rules.specs.Lexemes.{lexed};
 ghost use Rattle.rules.specs.Calls.{divided, has_equals};
-ghost use Rattle.rules.specs.Library.{is_one_symbol, start_symbol, start_symbols};
+ghost use Rattle.rules.specs.Library.{is_one_symbol, start_symbols};
 ghost use Rattle.rules.specs.Faults.{has_long_symbol, before_equals, are_good_parts};
-ghost use Rattle.parts.specs.Parts.{parts_of};
+ghost use Rattle.operands.specs.Symbols.{symbols_left};
+
+use parts::Parts;
 
 // Whether the part has `=` outside quotes and parentheses.
 pub fn has_equals(part: &[u8]) -> bool
@@ -22,74 +25,37 @@ fn has_long_name(part: &[u8]) -> bool
     ensures { result ≡ has_long_symbol (before_equals (lexed true part.now)) }
 {
     let end = parts::bare_at(part, 0, b'=');
-    declared::has_long(&part[0..end])
-}
-
-// Whether the part starts with the variable symbol of this name.
-fn starts_named(part: &[u8], name: &[u8]) -> bool
-    ensures { result ≡ any (same name.now) (start_symbol (lexed true part.now)) }
-{
-    let size = declared::start_length(part);
-    if size == 0 {
-        return false;
-    }
-    lent::equal(name, &part[1..size + 1])
+    declared::has_long(&part[..end])
 }
 
 // How many parts the operand has.
 pub fn part_count(operand: &[u8]) -> usize
     ensures { result ≡ length (divided (lexed true operand.now)) }
 {
-    if operand.len() == 0 {
-        return 0;
-    }
-    let mut at = 0;
-    let mut count = 0;
-    while at <= operand.len() {
-        at = parts::bare_at(operand, at, b',') + 1;
-        count += 1;
-    }
-    count
+    Parts::of(operand).count()
 }
 
 // Whether each part is one variable symbol.
 pub fn are_symbols(operand: &[u8]) -> bool
     ensures { result ≡ every is_one_symbol (divided (lexed true operand.now)) }
 {
-    if operand.len() == 0 {
-        return true;
-    }
-    let mut at = 0;
-    while at <= operand.len() {
-        let end = parts::bare_at(operand, at, b',');
-        if !declared::is_one_symbol(&operand[at..end]) {
-            return false;
-        }
-        at = end + 1;
-    }
-    true
+    Parts::of(operand).all(|part| declared::is_one_symbol(part))
 }
 
 // Whether the parts are variable symbols, and then variable symbols with `=` and a default.
 pub fn are_good_parts(operand: &[u8]) -> bool
     ensures { result ≡ are_good_parts false (divided (lexed true operand.now)) }
 {
-    if operand.len() == 0 {
-        return true;
-    }
-    let mut at = 0;
     let mut keywords = false;
-    while at <= operand.len() {
-        let end = parts::bare_at(operand, at, b',');
-        if !declared::is_good_part(&operand[at..end]) {
+    for part in Parts::of(operand) {
+        if !declared::is_good_part(part) {
             return false;
         }
-        let keyword = has_equals(&operand[at..end]);
+        let keyword = has_equals(part);
         if keywords & !keyword {
             return false;
         }
         keywords = keyword;
-        at = end + 1;
     }
     true
 }
@@ -98,34 +64,47 @@ pub fn are_good_parts(operand: &[u8]) -> bool
 pub fn has_long_parts(operand: &[u8]) -> bool
     ensures { result ≡ any (λ part. has_long_symbol (before_equals part)) (divided (lexed true operand.now)) }
 {
-    if operand.len() == 0 {
-        return false;
-    }
-    let mut at = 0;
-    while at <= operand.len() {
-        let end = parts::bare_at(operand, at, b',');
-        if has_long_name(&operand[at..end]) {
-            return true;
-        }
-        at = end + 1;
-    }
-    false
+    Parts::of(operand).any(|part| has_long_name(part))
 }
 
-// Whether one of the parts of the operand's rest, from `at` on, starts with the variable symbol of this name.
-pub fn symbol_among(operand: &[u8], at: usize, name: &[u8]) -> bool
-    ensures { result ≡ any (same name.now) (start_symbols (map (lexed true) (parts_of (drop at operand.now)))) }
-{
-    if operand.len() <= at {
-        return false;
-    }
-    let mut i = at;
-    while i <= operand.len() {
-        let end = parts::bare_at(operand, i, b',');
-        if starts_named(&operand[i..end], name) {
-            return true;
+// The symbols that an operand's parts start with, those that are still to come.
+#[derive(Clone, Copy)]
+pub struct Symbols<'a> {
+    parts: Parts<'a>,
+}
+
+impl<'a> Symbols<'a> {
+    // All of them.
+    pub fn of(operand: &'a [u8]) -> Symbols<'a>
+        ensures { symbols_left result ≡ start_symbols (divided (lexed true operand.now)) }
+    {
+        Symbols {
+            parts: Parts::of(operand),
         }
-        i = end + 1;
     }
-    false
+}
+
+impl<'a> Iterator for Symbols<'a> {
+    type Item = &'a [u8];
+
+    ghost next_gives = { YieldsFirstRef symbols_left };
+
+    ghost remaining = { item_count symbols_left };
+
+    fn next(&mut self) -> Option<&'a [u8]> {
+        while let Some(part) = self.parts.next() {
+            if let Some(name) = declared::start_symbol(part) {
+                return Some(name);
+            }
+        }
+        None
+    }
+}
+
+// Whether one of the symbols has this name.
+pub fn symbol_among(symbols: Symbols, name: &[u8]) -> bool
+    ensures { result ≡ any (same name.now) (symbols_left symbols.entry) }
+{
+    let mut rest = symbols;
+    rest.any(|symbol| lent::equal(name, symbol))
 }

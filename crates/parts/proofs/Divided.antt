@@ -1,11 +1,16 @@
 -- The parts of an operand's lexemes are the lexemes of its parts; and its parts from one place on are the first of them and those behind its comma. Assumes nothing.
 use Prim.Native.Nat.{ℕ, zero, suc, ◌+◌, ◌-◌, ◌≤◌, ◌<◌}
-use native.Mathlib.Nat.{not-suc-le-zero}
+use native.Mathlib.Nat.{not-suc-le-zero, sub-zero}
 use native.Mathlib.Omega.{arith}
 use mathlib.Core.Path.{◌≡◌, refl, ap, sym, ◌∙◌}
 use mathlib.Core.Bool.{true}
 use mathlib.Core.List.{List, [], ◌∷◌, ◌++◌, map}
 use lib.Dec.{ltb}
+use Rattle.std.specs.Prelude.{Option, Some, None}
+use Rattle.std.specs.Borrow.{Bor}
+use Rattle.std.specs.Slice.{IsGetRangeResult}
+use Rattle.std.proofs.lemmas.List.{take_rest}
+use borrow.Author.Rules.{rules}
 use lib.ListN.{length, take, drop, length-drop}
 use lib.Seq.{take_all, drop-drop}
 use borrow.Author.Tests.{ltb-true, ltb-false, lt-ltb, le-ltb, le-leb, lt-leb}
@@ -14,9 +19,9 @@ use Rattle.rules.specs.Choice.{on_first}
 use Rattle.rules.specs.Lexemes.{comma, byte, marked, symbols, lexed, unlexed, Inside, outside, enters, is_bare}
 use Rattle.rules.specs.Fields.{is_empty}
 use Rattle.rules.specs.Calls.{parts, divided}
-use Rattle.rules.proofs.Choices.{by, chosen, passed_over}
+use Rattle.rules.proofs.Choices.{by, either, chosen, passed_over}
 use Rattle.rules.proofs.Lossless.{lexed-back}
-use Rattle.parts.specs.Parts.{bare_at, parts_within, parts_from, parts_of}
+use Rattle.parts.specs.Parts.{bare_at, parts_within, parts_from, parts_of, parts_of_rest}
 use Rattle.parts.proofs.Clear.{Lexes, Clear}
 use Rattle.parts.proofs.Cut.{comma-is, stops-at, front-clear, cut_inside, cut-none}
 
@@ -99,6 +104,13 @@ no_byte : {c : ℕ} {s : Bytes} → c ∷ s ≡ unlexed [] → ⊥
 unfolding unlexed
 no_byte h = let n = ap length h in omega (arith, n)
 
+-- there is one part more than there are commas
+within-few : (n : ℕ) (s : Bytes) → length (parts_within n s) ≤ suc n
+unfolding parts_within
+within-few zero s = omega arith
+within-few (suc n) s =
+    either (λ (ps : List Bytes). length ps ≤ suc (suc n)) (ltb (e s) (length s)) (λ t. omega (arith, within-few n (drop (suc (e s)) s))) (λ t. omega arith)
+
 -- ---- by place
 
 from_is : (s : Bytes) (at : ℕ) → at ≤ length s → parts_from s at ≡ parts_within (length s) (drop at s)
@@ -130,6 +142,27 @@ parts-on s at end h q =
     within-last t (length s) le
     ∙ (λ i. (sym (take_all b t le) ∙ ap (λ (m : ℕ). take m t) size) i ∷ sym (parts-done s (end + 1) (omega (arith, q, l, le, h))) i)))
 
+-- the parts from a place on are those of the text's rest there
+pub parts-moved : (s : Bytes) (at : ℕ) → at ≤ length s → parts_from s at ≡ parts_from (drop at s) 0
+parts-moved s at h =
+    let l = length-drop at s in
+    from_is s at h
+    ∙ (within-any (length s) (length (drop at s)) (drop at s) (omega (arith, l)) (omega arith)
+    ∙ sym (from_is (drop at s) 0 (omega arith)))
+
+-- the first part of what is left, and what is left behind its comma
+module _ (s : Bytes) (end : ℕ) (q : end ≡ 0 + bare_at comma s) where
+  pub first-inside : end < length s → parts_from s 0 ≡ take end s ∷ parts_from (drop (end + 1) s) 0
+  first-inside h = parts-on s 0 end (omega arith) q ∙ (λ i. take (sub-zero end i) s ∷ parts-moved s (end + 1) (omega (arith, h)) i)
+
+  pub first-last : length s ≤ end → parts_from s 0 ≡ take end s ∷ []
+  first-last h = parts-on s 0 end (omega arith) q ∙ (λ i. take (sub-zero end i) s ∷ parts-done s (end + 1) (omega (arith, h)) i)
+
+  -- left by `get`: nothing where the text ends at `end`
+  pub first-left : (r : Option (Bor Bytes)) → IsGetRangeResult s (end + 1) (length s) r → parts_from s 0 ≡ take end s ∷ parts_of_rest r
+  first-left None g = first-last (search (rules, g))
+  first-left (Some t) g = first-inside (search (rules, g)) ∙ ap (λ (r : Bytes). take end s ∷ parts_from r 0) (sym (take_rest s (end + 1)) ∙ sym g.0.2)
+
 -- ---- all of them
 
 pub parts-start : (s : Bytes) → 0 < length s → parts_of s ≡ parts_from s 0
@@ -150,6 +183,12 @@ parts-there s at h =
     ∙ (from_is (drop at s) 0 (omega arith)
     ∙ (within-any (length (drop at s)) (length s) (drop at s) (omega arith) (omega (arith, l))
     ∙ sym (from_is s at (omega (arith, h)))))
+
+pub few_parts : (s : Bytes) → length (parts_of s) ≤ length s + 1
+few_parts [] = omega (arith, ap length (parts_none [] (omega arith)))
+few_parts (c ∷ s) =
+    let all = ap length (parts-start (c ∷ s) (omega arith) ∙ from_is (c ∷ s) 0 (omega arith)) in
+    omega (arith, all, within-few (length (c ∷ s)) (c ∷ s))
 
 -- the parts of an operand's lexemes
 pub divided-cut : (s : Bytes) → divided (lexed true s) ≡ map (lexed true) (parts_of s)

@@ -1,4 +1,4 @@
-// The tests of a line where a prototype should stand, and of a line outside definitions: the lowest number that the line has.
+// The tests of a line where a prototype should stand, and of a line outside definitions.
 #![tactic(auto)]
 
 ghost use Rattle.std.specs.Prelude.{◌≡◌, true, false, List, ◌++◌, map, ◌+◌, ltb, length};
@@ -12,7 +12,10 @@ ghost use Rattle.rules.specs.Library.{outer, at_prototype, start_symbol, start_s
 ghost use Rattle.rules.specs.Faults.{Around, is_out_of_place, is_macro_name, has_bad_prototype_name, has_bad_name, declares_wrongly, is_good_prototype, is_ill_formed, is_past};
 ghost use Rattle.names.specs.Names.{titles_in, padded};
 ghost use Rattle.tables.specs.Titles.{fits_row};
+ghost use Rattle.refusals.specs.Numbers.{number_by};
 ghost use Rattle.prototypes.specs.Lowest.{lowest};
+
+use refusals::Fault;
 
 // Whether the operation may be a macro's name.
 pub fn is_macro_name(operation: &[u8]) -> bool
@@ -20,7 +23,7 @@ pub fn is_macro_name(operation: &[u8]) -> bool
 {
     let name = statements::is_name(operation, 8);
     let word = words::word(operation);
-    name & (word == 16)
+    name & word.is_none()
 }
 
 // Whether the operation is a macro's name already.
@@ -35,14 +38,14 @@ fn declares_wrongly(name: &[u8], operand: &[u8]) -> bool
     ensures { result ≡ declares_wrongly (λ n. false) (start_symbol (lexed false name.now) ++ start_symbols (divided (lexed true operand.now))) }
 {
     let rest = declaring::declares_wrongly(operand, &operand[0..0], &operand[0..0]);
-    let size = declared::start_length(name);
-    if size == 0 {
-        return rest;
+    match declared::start_symbol(name) {
+        Some(symbol) => {
+            let system = declaring::begins_sys(symbol);
+            let again = operands::symbol_among(operands::Symbols::of(operand), symbol);
+            system | (again | rest)
+        }
+        None => rest,
     }
-    let symbol = &name[1..size + 1];
-    let system = declaring::begins_sys(symbol);
-    let again = operands::symbol_among(operand, 0, symbol);
-    system | (again | rest)
 }
 
 // 3: whether a prototype's name, operation or operand has a bad name.
@@ -72,62 +75,62 @@ fn has_too_many(name: &[u8], operand: &[u8]) -> bool
     ensures { result ≡ ltb parameter_limit (length (divided (lexed true operand.now)) + length (start_symbol (lexed false name.now))) }
 {
     let parts = operands::part_count(operand);
-    if declared::start_length(name) == 0 {
-        return 16 < parts;
+    match declared::start_symbol(name) {
+        Some(_) => 15 < parts,
+        None => 16 < parts,
     }
-    15 < parts
 }
 
-// The lowest number, 1 to 5, that a line where a prototype should stand has; 0 where it has none.
-pub fn prototype_fault(line: &[u8], titles: &[u8]) -> u8
-    ensures { (ts : List Bytes) (a : Around) → titles_in titles.now ≡ map padded ts → every fits_row ts ≡ true → result ≡ lowest (is_ill_written line.now) (is_out_of_place at_prototype line.now) (has_bad_prototype_name ts (fields_of line.now)) (is_ill_formed line.now at_prototype) (is_past a line.now at_prototype) }
+// The refusal with the lowest number that a line where a prototype should stand has, where it has one.
+pub fn prototype_fault(line: &[u8], titles: &[u8]) -> Option<Fault>
+    ensures { (ts : List Bytes) (a : Around) → titles_in titles.now ≡ map padded ts → every fits_row ts ≡ true → number_by result ≡ lowest (is_ill_written line.now) (is_out_of_place at_prototype line.now) (has_bad_prototype_name ts (fields_of line.now)) (is_ill_formed line.now at_prototype) (is_past a line.now at_prototype) }
 {
     if written::is_ill_written(line) {
-        return 1;
+        return Some(Fault::BadByte);
     }
     let operation = statements::operation_of(line);
     if operation.len() == 0 {
-        return 2;
+        return Some(Fault::OutOfPlace);
     }
     let name = written::name_field(line);
     let operand = written::operand_field(line);
     if has_bad_name(name, operation, operand, titles) {
-        return 3;
+        return Some(Fault::BadName);
     }
     if !is_good(name, operand) {
-        return 4;
+        return Some(Fault::IllFormed);
     }
     if has_too_many(name, operand) {
-        return 5;
+        return Some(Fault::OverLimit);
     }
-    0
+    None
 }
 
-// The lowest number that a line outside definitions has, where `macros` MACRO lines stand before it.
-pub fn outer_fault(line: &[u8], macros: usize) -> u8
-    ensures { (a : Around) → a.macros ≡ macros → (ls : List Bytes) → result ≡ lowest (is_ill_written line.now) (is_out_of_place outer line.now) (has_bad_name a line.now ls outer) (is_ill_formed line.now outer) (is_past a line.now outer) }
+// The refusal with the lowest number that a line outside definitions has, where `macros` MACRO lines stand before it.
+pub fn outer_fault(line: &[u8], macros: usize) -> Option<Fault>
+    ensures { (a : Around) → a.macros ≡ macros → (ls : List Bytes) → number_by result ≡ lowest (is_ill_written line.now) (is_out_of_place outer line.now) (has_bad_name a line.now ls outer) (is_ill_formed line.now outer) (is_past a line.now outer) }
 {
     if written::is_ill_written(line) {
-        return 1;
+        return Some(Fault::BadByte);
     }
     if !statements::is_macro(line) {
         let operation = statements::operation_of(line);
         if operation.len() == 0 {
-            return 0;
+            return None;
         }
-        return 2;
+        return Some(Fault::OutOfPlace);
     }
     let name = written::name_field(line);
     let sequence = statements::is_long_sequence(name);
     let long = declared::has_long(name);
     if sequence | long {
-        return 3;
+        return Some(Fault::BadName);
     }
     if name.len() != 0 {
-        return 4;
+        return Some(Fault::IllFormed);
     }
     if 32 <= macros {
-        return 5;
+        return Some(Fault::OverLimit);
     }
-    0
+    None
 }

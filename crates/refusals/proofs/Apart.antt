@@ -1,5 +1,5 @@
--- No two refusals have one number, and which number is left when others are none. Assumes nothing.
-use Prim.Native.Nat.{ℕ, zero, suc, ◌-◌, ◌≤◌}
+-- No two refusals have one number. Assumes nothing.
+use Prim.Native.Nat.{ℕ, ◌-◌}
 use native.Mathlib.Omega.{arith}
 use mathlib.Core.Path.{◌≡◌, refl, sym, ap, ◌∙◌}
 use mathlib.Core.List.{List, [], ◌∷◌}
@@ -38,17 +38,20 @@ back LanguageWord = refl
 pub numbers_apart : (f g : Fault) → number_of f ≡ number_of g → f ≡ g
 numbers_apart f g e = sym (back f) ∙ ap numbered e ∙ back g
 
--- n is none of 1 to k
-abbrev None : ℕ → ℕ → Type 0
-None n zero = Unit
-None n (suc k) = None n k × (n ≡ suc k → ⊥)
-
-above : (n k : ℕ) → 1 ≤ n → None n k → suc k ≤ n
-above n zero from none = from
-above n (suc k) from none =
-    let h = above n k from none.0 in
-    let d = none.1 in
-    omega (arith, h, d)
-
-pub only-last : (n k : ℕ) → 1 ≤ n → n ≤ suc k → None n k → suc k ≡ n
-only-last n k from to none = let h = above n k from none in omega (arith, h, to)
+-- none has the number that says that there is none
+pub numbered-from-1 : (f : Fault) → number_of f ≡ 0 → ⊥
+numbered-from-1 BadByte h = absurd (omega (arith, h))
+numbered-from-1 OutOfPlace h = absurd (omega (arith, h))
+numbered-from-1 BadName h = absurd (omega (arith, h))
+numbered-from-1 IllFormed h = absurd (omega (arith, h))
+numbered-from-1 OverLimit h = absurd (omega (arith, h))
+numbered-from-1 BadCall h = absurd (omega (arith, h))
+numbered-from-1 TooLong h = absurd (omega (arith, h))
+numbered-from-1 BadValue h = absurd (omega (arith, h))
+numbered-from-1 CounterSpent h = absurd (omega (arith, h))
+numbered-from-1 LevelSix h = absurd (omega (arith, h))
+numbered-from-1 CallsSpent h = absurd (omega (arith, h))
+numbered-from-1 BadDeck h = absurd (omega (arith, h))
+numbered-from-1 ShortWorkspace h = absurd (omega (arith, h))
+numbered-from-1 NoRoom h = absurd (omega (arith, h))
+numbered-from-1 LanguageWord h = absurd (omega (arith, h))

@@ -30,3 +30,4 @@ pub mod Keywords
 pub mod Taken
 pub mod Refusals
 pub mod Library
+pub mod Listed

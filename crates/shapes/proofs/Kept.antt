@@ -4,14 +4,14 @@ use mathlib.Core.Path.{◌≡◌, ap, sym, ◌∙◌}
 use mathlib.Core.Bool.{Bool, true, false}
 use borrow.Author.Tests.{eq-eqb, ne_eqb}
 use Rattle.rules.proofs.Choices.{chosen, passed_over}
-use Rattle.deck.specs.Coders.{models_code, branches_if_code}
+use Rattle.kinds.specs.declared.Does.TheVariants.{Models, BranchesIf}
 use Rattle.shapes.specs.declared.Codes.{Codes as Ends}
 use Rattle.shapes.specs.declared.Shape.{Shape as Kept}
 use Rattle.shapes.specs.Shapes.{branching_if, modelling}
 
 module _ (e : Ends) where
   abbrev pub model : ℕ → Kept
-  model n = record { does = models_code; name = n; operation = e.name; gap = e.operation; operand = e.operation; rest = e.operand; end = e.operand }
+  model n = record { does = Models; name = n; operation = e.name; gap = e.operation; operand = e.operation; rest = e.operand; end = e.operand }
 
   pub unnamed-model : {label : Bool} → label ≡ true → model 0 ≡ modelling label e
   unnamed-model h = ap model (sym (chosen 0 e.name h))
@@ -20,7 +20,7 @@ module _ (e : Ends) where
   named-model h = ap model (sym (passed_over 0 e.name h))
 
   abbrev pub branch : ℕ → ℕ → Kept
-  branch rest end = record { does = branches_if_code; name = 0; operation = e.name; gap = e.name; operand = e.operation; rest = rest; end = end }
+  branch rest end = record { does = BranchesIf; name = 0; operation = e.name; gap = e.name; operand = e.operation; rest = rest; end = end }
 
   module _ (k m : ℕ) (least : m ≡ min k (e.operand - e.operation)) where
     abbrev rest : ℕ

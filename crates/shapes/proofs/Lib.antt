@@ -2,7 +2,6 @@
 pub mod Plain
 pub mod Kept
 pub mod Written
-pub mod Words
 pub mod Parts
 pub mod Texts
 pub mod Spelt

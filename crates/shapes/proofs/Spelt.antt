@@ -15,9 +15,10 @@ use Rattle.rules.specs.Faults.{target_behind}
 use Rattle.rules.proofs.Choices.{chosen, passed_over, by, either, into}
 use Rattle.rules.proofs.ReadLines.{InSet}
 use Rattle.rules.proofs.Lossless.{lexed-back}
+use Rattle.kinds.specs.Kinds.{does_for}
+use Rattle.kinds.specs.declared.Does.TheVariants.{BranchesIf, Text}
 use Rattle.coding.specs.Coded.{code_by}
 use Rattle.grammar.specs.Tokens.{toks_at}
-use Rattle.forms.specs.Numbers.{does_number}
 use Rattle.shapes.specs.declared.Codes.{Codes as Ends}
 use Rattle.shapes.specs.Shapes.{part, ends_of, is_plain_code, keeps_none, keeps_operand, branching, branching_if, modelling, shape_of, target_text, Spelt}
 use Rattle.shapes.proofs.Parts.{part_none, first_part, second-part, third-part, third-front, third-rest}
@@ -65,7 +66,7 @@ module _ (g : Bytes → ℕ) (high : High g) (l : Bytes) (f : Fields) (in-name :
   whole : length s ≡ length a + length b + length c
   whole = omega (arith, length-append a (b ++ c), length-append b c)
 
-  none-spelt : (d : Does Bytes) → Spelt g (doing d) [] s (keeps_none (does_number d) e)
+  none-spelt : (d : Does Bytes) → Spelt g (doing d) [] s (keeps_none (does_for d) e)
   unfolding doing ends_of
   none-spelt d = record {
     does = refl;
@@ -79,7 +80,7 @@ module _ (g : Bytes → ℕ) (high : High g) (l : Bytes) (f : Fields) (in-name :
     operand_in = (omega arith, (omega arith, omega (arith, whole)));
   }
 
-  set-spelt : (k : Set) → Spelt g (record { does = sets k; name = x₁; operation = []; operand = x₃ }) [] s (keeps_operand (does_number {L = Bytes} (sets k)) (length a) e)
+  set-spelt : (k : Set) → Spelt g (record { does = sets k; name = x₁; operation = []; operand = x₃ }) [] s (keeps_operand (does_for {L = Bytes} (sets k)) (length a) e)
   unfolding ends_of
   set-spelt k = record {
     does = refl;
@@ -93,7 +94,7 @@ module _ (g : Bytes → ℕ) (high : High g) (l : Bytes) (f : Fields) (in-name :
     operand_in = (omega arith, (omega arith, omega (arith, whole)));
   }
 
-  count-spelt : Spelt g (record { does = counts; name = []; operation = []; operand = x₃ }) [] s (keeps_operand (does_number {L = Bytes} counts) 0 e)
+  count-spelt : Spelt g (record { does = counts; name = []; operation = []; operand = x₃ }) [] s (keeps_operand (does_for {L = Bytes} counts) 0 e)
   unfolding ends_of
   count-spelt = record {
     does = refl;
@@ -108,7 +109,7 @@ module _ (g : Bytes → ℕ) (high : High g) (l : Bytes) (f : Fields) (in-name :
   }
 
   branch-spelt : (t : Bytes) → Spelt g (doing (branches t)) f.operand s (branching e)
-  unfolding doing ends_of does_number
+  unfolding doing ends_of
   branch-spelt t = record {
     does = refl;
     name = refl;
@@ -136,13 +137,13 @@ module _ (g : Bytes → ℕ) (high : High g) (l : Bytes) (f : Fields) (in-name :
   written k = into unlexed (eqb k 0) [] (drop k x₃)
 
   if-spelt : (t : Bytes) (k : ℕ) → Spelt g (record { does = branches_if t; name = []; operation = []; operand = take k x₃ }) (choose (eqb k 0) [] (unlexed (drop k x₃))) s (branching_if k e)
-  unfolding ends_of does_number
+  unfolding ends_of
   if-spelt t k =
       let n : length a + length b + length c - (length a + length b) ≡ length c = omega arith in
       let r = behind k in
       subst (λ (m : ℕ). Spelt g (record { does = branches_if t; name = []; operation = []; operand = take k x₃ }) (choose (eqb k 0) [] (unlexed (drop k x₃))) s
       (record {
-        does = 5;
+        does = BranchesIf;
         name = 0;
         operation = length a;
         gap = length a;
@@ -163,7 +164,7 @@ module _ (g : Bytes → ℕ) (high : High g) (l : Bytes) (f : Fields) (in-name :
       })
 
   model-spelt : (label : Bool) → Spelt g (record { does = models; name = choose label [] x₁; operation = x₂; operand = x₃ }) [] s (modelling label e)
-  unfolding ends_of does_number choose
+  unfolding ends_of choose
   model-spelt label = record {
     does = refl;
     name = kept label;
@@ -188,7 +189,7 @@ module _ (g : Bytes → ℕ) (high : High g) (l : Bytes) (f : Fields) (in-name :
       ∙ (and_assoc (every is_plain x₁) _ _ ∙ ap (λ (r : Bool). every is_plain x₁ && r) (and_assoc (every is_plain x₂) _ _))
 
   pub spelt : (st : Statement) → Spelt g (says l f st) (target_text f st) s (shape_of st (is_sequence f.name) e s)
-  unfolding says target_text shape_of target_behind model_of does_number ends_of
+  unfolding says target_text shape_of target_behind model_of ends_of
   spelt macro = none-spelt passes
   spelt mend = none-spelt ends
   spelt mexit = none-spelt exits
@@ -202,7 +203,7 @@ module _ (g : Bytes → ℕ) (high : High g) (l : Bytes) (f : Fields) (in-name :
   spelt anop = none-spelt passes
   spelt actr = count-spelt
   spelt model =
-      subst (λ (r : Bool). Spelt g (says l f model) [] s (choose r (keeps_none 3 e) (modelling (is_sequence f.name) e))) (sym copied)
+      subst (λ (r : Bool). Spelt g (says l f model) [] s (choose r (keeps_none Text e) (modelling (is_sequence f.name) e))) (sym copied)
       (by (is_copied f)
-      (λ h. subst (λ k. Spelt g (says l f model) [] s k) (sym (chosen _ _ h)) (subst (λ x. Spelt g x [] s (keeps_none 3 e)) (sym (chosen _ _ h)) (none-spelt (text l))))
+      (λ h. subst (λ k. Spelt g (says l f model) [] s k) (sym (chosen _ _ h)) (subst (λ x. Spelt g x [] s (keeps_none Text e)) (sym (chosen _ _ h)) (none-spelt (text l))))
       (λ h. subst (λ k. Spelt g (says l f model) [] s k) (sym (passed_over _ _ h)) (subst (λ x. Spelt g x [] s (modelling (is_sequence f.name) e)) (sym (passed_over _ _ h)) (model-spelt (is_sequence f.name)))))

@@ -7,11 +7,13 @@ use Rattle.rules.specs.Lexemes.{lexed, sequence_start, is_sequence}
 use Rattle.rules.specs.Fields.{Fields}
 use Rattle.rules.specs.Statement.{Statement, macro, mend, mexit, local, global, set, aif, ago, anop, actr, model, condition_end, Line}
 use Rattle.rules.specs.Faults.{target_behind}
-use Rattle.deck.specs.Coders.{passes_code, ends_code, exits_code, text_code, models_code, branches_if_code, branches_code, counts_code, sets_code, set_code, own_code}
+use Rattle.kinds.specs.Kinds.{set_for, does_for}
+use Rattle.kinds.specs.declared.Does.{Does}
+use Rattle.kinds.specs.declared.Does.TheVariants.{Passes, Ends, Exits, Text, Models, BranchesIf, Branches, Counts, Sets}
+use Rattle.deck.specs.Coders.{own_code}
 use Rattle.coding.specs.Coded.{code_by}
 use Rattle.grammar.specs.Tokens.{toks_at}
-use Rattle.forms.specs.Numbers.{does_number}
-use Rattle.shapes.specs.declared.Codes.{Codes as Ends}
+use Rattle.shapes.specs.declared.Codes.{Codes}
 use Rattle.shapes.specs.declared.Shape.{Shape as Kept}
 
 -- from one place up to another
@@ -19,7 +21,7 @@ unfoldable pub part : Bytes → ℕ → ℕ → Bytes
 part s from to = take (to - from) (drop from s)
 
 -- where the codes of the three fields end
-unfoldable pub ends_of : Bytes → Bytes → Bytes → Ends
+unfoldable pub ends_of : Bytes → Bytes → Bytes → Codes
 ends_of name operation operand = record {
   name = length name;
   operation = length name + length operation;
@@ -31,38 +33,38 @@ unfoldable pub is_plain_code : Bytes → Bool
 is_plain_code s = every (λ b. ltb b own_code) s
 
 -- a line that keeps none of its fields
-abbrev pub keeps_none : ℕ → Ends → Kept
+abbrev pub keeps_none : Does → Codes → Kept
 keeps_none does e = record { does = does; name = 0; operation = e.name; gap = e.name; operand = e.operation; rest = e.operation; end = e.operation }
 
 -- one that keeps its operand, and its name up to a place
-abbrev pub keeps_operand : ℕ → ℕ → Ends → Kept
+abbrev pub keeps_operand : Does → ℕ → Codes → Kept
 keeps_operand does name e = record { does = does; name = name; operation = e.name; gap = e.name; operand = e.operation; rest = e.operand; end = e.operand }
 
 -- AGO's target is all of its operand; AIF's is what stands behind its condition, where it has one
-abbrev pub branching : Ends → Kept
-branching e = record { does = branches_code; name = 0; operation = e.name; gap = e.name; operand = e.operation; rest = e.operation; end = e.operand }
+abbrev pub branching : Codes → Kept
+branching e = record { does = Branches; name = 0; operation = e.name; gap = e.name; operand = e.operation; rest = e.operation; end = e.operand }
 
-abbrev pub branching_if : ℕ → Ends → Kept
+abbrev pub branching_if : ℕ → Codes → Kept
 branching_if condition e =
     let rest = e.operation + min condition (e.operand - e.operation) in
-    record { does = branches_if_code; name = 0; operation = e.name; gap = e.name; operand = e.operation; rest = rest; end = choose (eqb condition 0) rest e.operand }
+    record { does = BranchesIf; name = 0; operation = e.name; gap = e.name; operand = e.operation; rest = rest; end = choose (eqb condition 0) rest e.operand }
 
-abbrev pub modelling : Bool → Ends → Kept
-modelling label e = record { does = models_code; name = choose label 0 e.name; operation = e.name; gap = e.operation; operand = e.operation; rest = e.operand; end = e.operand }
+abbrev pub modelling : Bool → Codes → Kept
+modelling label e = record { does = Models; name = choose label 0 e.name; operation = e.name; gap = e.operation; operand = e.operation; rest = e.operand; end = e.operand }
 
 -- a statement's shape: `label` says that its name is a sequence symbol
-unfoldable pub shape_of : Statement → Bool → Ends → Bytes → Kept
-shape_of macro label e s = keeps_none passes_code e
-shape_of mend label e s = keeps_none ends_code e
-shape_of mexit label e s = keeps_none exits_code e
-shape_of (local k) label e s = keeps_none passes_code e
-shape_of (global k) label e s = keeps_none passes_code e
-shape_of (set k) label e s = keeps_operand (sets_code + set_code k) e.name e
+unfoldable pub shape_of : Statement → Bool → Codes → Bytes → Kept
+shape_of macro label e s = keeps_none Passes e
+shape_of mend label e s = keeps_none Ends e
+shape_of mexit label e s = keeps_none Exits e
+shape_of (local k) label e s = keeps_none Passes e
+shape_of (global k) label e s = keeps_none Passes e
+shape_of (set k) label e s = keeps_operand (Sets (set_for k)) e.name e
 shape_of aif label e s = branching_if (condition_end (toks_at [] (part s e.operation e.operand) 0)) e
 shape_of ago label e s = branching e
-shape_of anop label e s = keeps_none passes_code e
-shape_of actr label e s = keeps_operand counts_code 0 e
-shape_of model label e s = choose (is_plain_code s && not label) (keeps_none text_code e) (modelling label e)
+shape_of anop label e s = keeps_none Passes e
+shape_of actr label e s = keeps_operand Counts 0 e
+shape_of model label e s = choose (is_plain_code s && not label) (keeps_none Text e) (modelling label e)
 
 -- the text of a branch target, where the statement has one
 unfoldable pub target_text : Fields → Statement → Bytes
@@ -80,7 +82,7 @@ target_text f model = []
 
 -- a shape over codes says what a line says, where g gives the byte of a variable symbol
 pub record Spelt (g : Bytes → ℕ) (x : Line Bytes Bytes) (target : Bytes) (s : Bytes) (k : Kept) : Type 0 where
-  pub does : k.does ≡ does_number x.does
+  pub does : k.does ≡ does_for x.does
   pub name : take k.name s ≡ map (code_by g) x.name
   pub operation : part s k.operation k.gap ≡ map (code_by g) x.operation
   pub operand : part s k.operand k.rest ≡ map (code_by g) x.operand

@@ -1,13 +1,15 @@
 // A statement in codes: what the line does, and which codes it keeps.
 #![tactic(auto)]
 
-ghost use Rattle.std.specs.Prelude.{◌≡◌, Bool, true, false, ◌++◌, ◌+◌, ◌-◌, ◌≤◌, min, eqb, length, get_or};
+ghost use Rattle.std.specs.Prelude.{◌≡◌, Bool, true, false, ◌++◌, ◌+◌, ◌-◌, ◌≤◌, min, eqb, length};
 ghost use Rattle.rules.specs.Choice.{choose};
-ghost use Rattle.rules.specs.Statement.{statements, model};
-ghost use Rattle.deck.specs.Coders.{branches_if_code};
+ghost use Rattle.kinds.specs.Kinds.{statement_by};
 ghost use Rattle.lent.specs.Splice.{splice};
 ghost use Rattle.coding.specs.Coded.{field_code};
 ghost use Rattle.shapes.specs.Shapes.{ends_of, is_plain_code, keeps_none, keeps_operand, branching, branching_if, modelling, shape_of};
+
+use kinds::{Does, Word};
+use names::Names;
 
 // Where the codes of a statement's name, operation and operand end, one behind another.
 #[derive(Clone, Copy)]
@@ -21,7 +23,7 @@ pub struct Codes {
 // branch target's from there to `end`.
 #[derive(Clone, Copy)]
 pub struct Shape {
-    pub does: u8,
+    pub does: Does,
     pub name: usize,
     pub operation: usize,
     pub gap: usize,
@@ -34,18 +36,11 @@ pub struct Shape {
 fn is_plain(code: &[u8]) -> bool
     ensures { result ≡ is_plain_code code.now }
 {
-    let mut i = 0;
-    while i < code.len() {
-        if 127 < code[i] {
-            return false;
-        }
-        i += 1;
-    }
-    true
+    code.iter().all(|&c| c < 128)
 }
 
 // A line that keeps none of its fields.
-fn keeps_none(does: u8, codes: Codes) -> Shape
+fn keeps_none(does: Does, codes: Codes) -> Shape
     ensures { result ≡ keeps_none does codes }
 {
     Shape {
@@ -60,7 +55,7 @@ fn keeps_none(does: u8, codes: Codes) -> Shape
 }
 
 // A line that keeps its operand, and its name up to a place.
-fn keeps_operand(does: u8, name: usize, codes: Codes) -> Shape
+fn keeps_operand(does: Does, name: usize, codes: Codes) -> Shape
     ensures { result ≡ keeps_operand does name codes }
 {
     Shape {
@@ -79,7 +74,7 @@ fn branching(codes: Codes) -> Shape
     ensures { result ≡ branching codes }
 {
     Shape {
-        does: 6,
+        does: Does::Branches,
         name: 0,
         operation: codes.name,
         gap: codes.name,
@@ -89,22 +84,15 @@ fn branching(codes: Codes) -> Shape
     }
 }
 
-// The lesser of two numbers.
-fn lesser(a: usize, b: usize) -> usize
-    ensures { result ≡ min a b }
-{
-    if a < b { a } else { b }
-}
-
 // AIF: the target is what stands behind its condition, where it has one.
 fn branching_if(condition: usize, codes: Codes) -> Shape
     requires { codes.operation ≤ codes.operand }
     ensures { result ≡ branching_if condition codes }
 {
-    let rest = codes.operation + lesser(condition, codes.operand - codes.operation);
+    let rest = codes.operation + condition.min(codes.operand - codes.operation);
     let end = if condition == 0 { rest } else { codes.operand };
     Shape {
-        does: 5,
+        does: Does::BranchesIf,
         name: 0,
         operation: codes.name,
         gap: codes.name,
@@ -120,7 +108,7 @@ fn modelling(label: bool, codes: Codes) -> Shape
 {
     let name = if label { 0 } else { codes.name };
     Shape {
-        does: 4,
+        does: Does::Models,
         name,
         operation: codes.name,
         gap: codes.operation,
@@ -135,18 +123,16 @@ pub fn code_fields(
     name: &[u8],
     operation: &[u8],
     operand: &[u8],
-    own: &[u8],
-    global: &[u8],
-    shared: &[u8],
+    names: Names,
     code: &mut [u8],
 ) -> Codes
     requires { length name.now + (length operation.now + length operand.now) ≤ length code.old }
-    ensures value { result ≡ ends_of (field_code false own.now global.now shared.now name.now) (field_code false own.now global.now shared.now operation.now) (field_code true own.now global.now shared.now operand.now) }
-    ensures code_after { code.new ≡ splice code.old 0 (field_code false own.now global.now shared.now name.now ++ (field_code false own.now global.now shared.now operation.now ++ field_code true own.now global.now shared.now operand.now)) }
+    ensures value { result ≡ ends_of (field_code false names.entry.own.now names.entry.global.now names.entry.shared.now name.now) (field_code false names.entry.own.now names.entry.global.now names.entry.shared.now operation.now) (field_code true names.entry.own.now names.entry.global.now names.entry.shared.now operand.now) }
+    ensures code_after { code.new ≡ splice code.old 0 (field_code false names.entry.own.now names.entry.global.now names.entry.shared.now name.now ++ (field_code false names.entry.own.now names.entry.global.now names.entry.shared.now operation.now ++ field_code true names.entry.own.now names.entry.global.now names.entry.shared.now operand.now)) }
 {
-    let first = coding::put_field(name, false, own, global, shared, code, 0);
-    let second = coding::put_field(operation, false, own, global, shared, code, first);
-    let third = coding::put_field(operand, true, own, global, shared, code, second);
+    let first = coding::put_field(name, false, names, code, 0);
+    let second = coding::put_field(operation, false, names, code, first);
+    let third = coding::put_field(operand, true, names, code, second);
     Codes {
         name: first,
         operation: second,
@@ -154,40 +140,33 @@ pub fn code_fields(
     }
 }
 
-// A statement's shape, by the number of its word: `label` says that its name is a sequence symbol, `code` has the codes of its three fields.
-pub fn shape_of(word: usize, label: bool, codes: Codes, code: &[u8]) -> Shape
+// A statement's shape, by its word: `label` says that its name is a sequence symbol, `code` has the codes of its three fields.
+#[tactic(auto, unfolding(crate::specs::Shapes::shape_of))]
+pub fn shape_of(word: Option<Word>, label: bool, codes: Codes, code: &[u8]) -> Shape
     requires { (codes.operation ≤ codes.operand) × (codes.operand ≤ length code.now) }
-    ensures { result ≡ shape_of (get_or statements word model) label codes code.now }
+    ensures { result ≡ shape_of (statement_by word) label codes code.now }
 {
-    if word == 1 {
-        return keeps_none(1, codes);
+    match word {
+        Some(Word::Macro) => keeps_none(Does::Passes, codes),
+        Some(Word::Mend) => keeps_none(Does::Ends, codes),
+        Some(Word::Mexit) => keeps_none(Does::Exits, codes),
+        Some(Word::Lcl(_)) => keeps_none(Does::Passes, codes),
+        Some(Word::Gbl(_)) => keeps_none(Does::Passes, codes),
+        Some(Word::Set(set)) => keeps_operand(Does::Sets(set), codes.name, codes),
+        Some(Word::Aif) => {
+            let from = codes.operation;
+            let to = codes.operand;
+            branching_if(forms::condition_end(&code[from..to]), codes)
+        }
+        Some(Word::Ago) => branching(codes),
+        Some(Word::Anop) => keeps_none(Does::Passes, codes),
+        Some(Word::Actr) => keeps_operand(Does::Counts, 0, codes),
+        None => {
+            if is_plain(code) & !label {
+                keeps_none(Does::Text, codes)
+            } else {
+                modelling(label, codes)
+            }
+        }
     }
-    if word == 2 {
-        return keeps_none(2, codes);
-    }
-    if word < 9 {
-        return keeps_none(0, codes);
-    }
-    if word < 12 {
-        return keeps_operand((word - 1) as u8, codes.name, codes);
-    }
-    if word == 12 {
-        let from = codes.operation;
-        let to = codes.operand;
-        return branching_if(forms::condition_end(&code[from..to]), codes);
-    }
-    if word == 13 {
-        return branching(codes);
-    }
-    if word == 14 {
-        return keeps_none(0, codes);
-    }
-    if word == 15 {
-        return keeps_operand(7, 0, codes);
-    }
-    let plain = is_plain(code);
-    if plain & !label {
-        return keeps_none(3, codes);
-    }
-    modelling(label, codes)
 }

@@ -3,7 +3,7 @@ use Prim.Native.Nat.{ℕ, suc, ◌+◌, ◌-◌, ◌≤◌, min}
 use native.Mathlib.Omega.{arith}
 use mathlib.Core.Path.{◌≡◌, refl, ap, sym, ◌∙◌}
 use mathlib.Core.Bool.{Bool, true, false, ◌&&◌, false≢true, and-false}
-use mathlib.Core.List.{List, [], ◌∷◌}
+use mathlib.Core.List.{[], ◌∷◌}
 use lib.Dec.{eqb, leb}
 use lib.ListN.{length, get_or, take, drop, length-take, length-drop}
 use lib.Seq.{length-take-le, take_all}
@@ -14,14 +14,8 @@ use Rattle.rules.specs.Choice.{run}
 use Rattle.rules.specs.Limits.{name_limit}
 use Rattle.rules.specs.Lexemes.{period, is_name, sequence_start, is_sequence}
 use Rattle.rules.proofs.Choices.{chosen, passed_over, by}
-use Rattle.statements.specs.Ends.{symbol_end}
-
-pub run-within : {A : Type 0} (test : A → Bool) (l : List A) → run test l ≤ length l
-unfolding run
-run-within test [] = omega arith
-run-within test (a ∷ l) = by (test a)
-    (λ e. rw (chosen (suc (run test l)) 0 e) (let h = run-within test l in omega arith))
-    (λ e. rw (passed_over (suc (run test l)) 0 e) (omega arith))
+pub use Rattle.rules.proofs.Scanning.{run-within}
+use Rattle.chars.specs.Ends.{symbol_end}
 
 -- a name, by its first byte, its end and its length
 pub name-is : (limit : ℕ) (s : Bytes) → (letter (get_or s 0 0) && (eqb (symbol_end s 1) (length s) && leb (length s) limit)) ≡ is_name limit s

@@ -1,45 +1,29 @@
 // A line's name and operation, and what names and sequence symbols are.
 #![tactic(auto)]
 
-ghost use Rattle.std.specs.Prelude.{◌≡◌, ◌+◌, ◌-◌, ◌≤◌, length};
+ghost use Rattle.std.specs.Prelude.{◌≡◌, length};
 ghost use Rattle.rules.specs.Lexemes.{is_name, sequence_start, is_sequence};
 ghost use Rattle.rules.specs.Fields.{is_remark, statement_fields};
 ghost use Rattle.rules.specs.Library.{operation_of, is_macro, is_mend, is_named};
 ghost use Rattle.rules.specs.Faults.{is_long_sequence, is_named_or_empty, is_model_name};
-ghost use Rattle.statements.specs.Ends.{symbol_end};
-
-// Where the letters and digits from `at` on end.
-fn symbol_end(s: &[u8], at: usize) -> usize
-    ensures value { result ≡ symbol_end s.now at }
-    ensures lower_bound { (at ≤ result) × (result ≤ at + (length s.now - at)) }
-{
-    let mut i = at;
-    while i < s.len() {
-        if !chars::letter_or_digit(s[i]) {
-            return i;
-        }
-        i += 1;
-    }
-    i
-}
 
 // Whether `s` is a letter, then letters or digits, at most `limit` in all.
 pub fn is_name(s: &[u8], limit: usize) -> bool
     ensures { result ≡ is_name limit s.now }
 {
     let starts = chars::letter(lent::byte(s, 0));
-    let end = symbol_end(s, 1);
+    let end = chars::symbol_end(s, 1);
     starts & ((end == s.len()) & (s.len() <= limit))
 }
 
-// How long the sequence symbol at the start of `s` is, without its period; 0 where there is none.
+// How long the sequence symbol at the start of `s` is, without its period; 0 where there is none, the length of the rules' `sequence_start`, which is empty there.
 pub fn symbol_length(s: &[u8]) -> usize
     ensures { result ≡ length (sequence_start s.now) }
 {
     let period = lent::byte(s, 0) == b'.';
     let starts = chars::letter(lent::byte(s, 1));
     if period & starts {
-        return symbol_end(s, 2) - 1;
+        return chars::symbol_end(s, 2) - 1;
     }
     0
 }

@@ -8,12 +8,5 @@ ghost use Rattle.symbols.specs.Held.{unknown_in};
 pub fn has_unknown(code: &[u8]) -> bool
     ensures { result ≡ unknown_in code.now }
 {
-    let mut i = 0;
-    while i < code.len() {
-        if code[i] == 254 {
-            return true;
-        }
-        i += 1;
-    }
-    false
+    code.contains(&names::UNKNOWN)
 }

@@ -4,9 +4,7 @@ use Rattle.std.specs.Io.KnownBytes.{Keeps, Appends, prepend_known}
 use Rattle.std.proofs.KnownBytes.{Appends-nil, Appends-trans, Keeps-refl, Keeps-trans}
 use Rattle.text.specs.Bytes.{Bytes}
 use Rattle.translate_batch.specs.Answering.{Answered, at_start, one_more, Stands, known_length, Moves, stays, answers, Steps, Answers}
-use Rattle.translate_batch.specs.declared.Left.{Left}
-use Rattle.translate_batch.specs.declared.Left.TheVariants.{Nothing}
-use Rattle.translate_batch.specs.declared.Left.TheVariants.{Some as Further}
+use Rattle.translate_batch.specs.declared.Place.{Place}
 
 -- after so many turns
 pub record Runs (whole : Bytes) (turns room : ℕ) (o o' e e' : Option Bytes) (window : Bytes) (at used : ℕ) (unread : Option Bytes) : Type 0 where
@@ -43,8 +41,8 @@ module _ (whole : Bytes) (room : ℕ) (o e : Option Bytes) where
   keeps-appends (Some x) (Some y) (Some z) s p q = q ∙ ap (λ l. l ++ s) p
 
   module _ (turns : ℕ) (o' e' o'' e'' : Option Bytes) (window window' : Bytes) (at used : ℕ) (unread unread' : Option Bytes) (r : Runs whole turns room o o' e e' window at used unread) where
-    goes-on : (at' used' : ℕ) → Steps whole r.place room unread o' e' window' unread' o'' e'' (Further at' used') → Runs whole (turns + 1) room o o'' e e'' window' at' used' unread'
-    goes-on at' used' s =
+    goes-on : (p : Place) → Steps whole r.place room unread o' e' window' unread' o'' e'' (Some p) → Runs whole (turns + 1) room o o'' e e'' window' p.at p.used unread'
+    goes-on p s =
         let to = goes o' o'' r.place s.0 r.written r.answered r.on_output s.1.2 in
         let fewer = s.1.1 in
         let few = r.few in
@@ -58,7 +56,7 @@ module _ (whole : Bytes) (room : ℕ) (o e : Option Bytes) where
           few = omega (arith, fewer, few);
         }
 
-    ends : Steps whole r.place room unread o' e' window' unread' o'' e'' Nothing → Answers whole (length window') room o o'' e e''
+    ends : Steps whole r.place room unread o' e' window' unread' o'' e'' None → Answers whole (length window') room o o'' e e''
     ends s =
         record {
           written = r.written;
@@ -69,15 +67,15 @@ module _ (whole : Bytes) (room : ℕ) (o e : Option Bytes) where
           on_errors = keeps-appends e e' e'' _ r.on_errors s.1;
         }
 
-    at-length : (size : ℕ) (left : Left) → size ≡ room → Steps whole r.place size unread o' e' window' unread' o'' e'' left → Steps whole r.place room unread o' e' window' unread' o'' e'' left
+    at-length : (size : ℕ) (left : Option Place) → size ≡ room → Steps whole r.place size unread o' e' window' unread' o'' e'' left → Steps whole r.place room unread o' e' window' unread' o'' e'' left
     at-length size left a s = subst (λ (n : ℕ). Steps whole r.place n unread o' e' window' unread' o'' e'' left) a s
 
-    pub turn : (size : ℕ) (left : Left) (at' used' : ℕ) → size ≡ room → left ≡ Further at' used' → Steps whole r.place size unread o' e' window' unread' o'' e'' left → Runs whole (turns + 1) room o o'' e e'' window' at' used' unread'
-    turn size left at' used' a b s = goes-on at' used' (subst (λ (l : Left). Steps whole r.place room unread o' e' window' unread' o'' e'' l) b (at-length size left a s))
+    pub turn : (size : ℕ) (left : Option Place) (p : Place) → size ≡ room → left ≡ Some p → Steps whole r.place size unread o' e' window' unread' o'' e'' left → Runs whole (turns + 1) room o o'' e e'' window' p.at p.used unread'
+    turn size left p a b s = goes-on p (subst (λ (l : Option Place). Steps whole r.place room unread o' e' window' unread' o'' e'' l) b (at-length size left a s))
 
-    pub last : (size : ℕ) (left : Left) (wide : ℕ) → size ≡ room → left ≡ Nothing → length window' ≡ wide → Steps whole r.place size unread o' e' window' unread' o'' e'' left → Answers whole wide room o o'' e e''
+    pub last : (size : ℕ) (left : Option Place) (wide : ℕ) → size ≡ room → left ≡ None → length window' ≡ wide → Steps whole r.place size unread o' e' window' unread' o'' e'' left → Answers whole wide room o o'' e e''
     last size left wide a b w s =
-        subst (λ (n : ℕ). Answers whole n room o o'' e e'') w (ends (subst (λ (l : Left). Steps whole r.place room unread o' e' window' unread' o'' e'' l) b (at-length size left a s)))
+        subst (λ (n : ℕ). Answers whole n room o o'' e e'') w (ends (subst (λ (l : Option Place). Steps whole r.place room unread o' e' window' unread' o'' e'' l) b (at-length size left a s)))
 
   -- so many turns no run takes
   pub never : (turns : ℕ) (o' e' : Option Bytes) (window : Bytes) (at used : ℕ) (unread : Option Bytes) → Runs whole turns room o o' e e' window at used unread → length whole < 2 ^ 63 → 2 ^ 64 - 1 ≤ turns → ⊥

@@ -12,9 +12,7 @@ use Rattle.batch.specs.Format.{case_at}
 use Rattle.batch.proofs.Inside.{Inside, found_inside}
 use Rattle.batch.proofs.Stays.{found-stays}
 use Rattle.batch.proofs.Shifted.{moved, case-shift, case-back, case-on}
-use Rattle.translate_batch.specs.declared.Left.{Left}
-use Rattle.translate_batch.specs.declared.Left.TheVariants.{Nothing}
-use Rattle.translate_batch.specs.declared.Left.TheVariants.{Some as Further}
+use Rattle.translate_batch.specs.declared.Place.{Place}
 use Rattle.translate_batch.specs.Answering.{answer_to, part, message, complaint, IsNoCase, Stands, known_length, ReadsOn, Moves, stays, answers, Steps}
 use Rattle.translate_batch.proofs.Windows.{in-some}
 
@@ -140,11 +138,11 @@ at-broken x at e =
 
 module _ (whole : Bytes) (place : ℕ) (shown : Bytes) (ended : Bool) (room : ℕ) (u o e : Option Bytes) (window' : Bytes) (u' e' : Option Bytes)
     (none : IsNoCase (case_at shown 0)) (says : choose ended [] message ≡ complaint shown) where
-  steps-by : (left : Left) → ReadsOn whole place shown ended u e window' u' e' left → Steps whole place room u o e window' u' o e' left
-  steps-by (Further at used) r = let h = r.1 in (place, (r.0, omega (arith, h), stays (Appends-nil o), r.2))
-  steps-by Nothing r =
+  steps-by : (left : Option Place) → ReadsOn whole place shown ended u e window' u' e' left → Steps whole place room u o e window' u' o e' left
+  steps-by (Some p) r = let h = r.1 in (place, (r.0, omega (arith, h), stays (Appends-nil o), r.2))
+  steps-by None r =
       (subst (λ (s : Bytes). IsNoCase (case_at s 0)) (sym r.0) none, subst (Appends e e') (says ∙ ap complaint (sym r.0)) r.1, Appends-nil o)
 
-  pub read-steps : {E : Type 0} (result : Result Left E) → IfOk result (ReadsOn whole place shown ended u e window' u' e') → IfOk result (Steps whole place room u o e window' u' o e')
+  pub read-steps : {E : Type 0} (result : Result (Option Place) E) → IfOk result (ReadsOn whole place shown ended u e window' u' e') → IfOk result (Steps whole place room u o e window' u' o e')
   read-steps (Ok left) r = steps-by left r
   read-steps (Err x) r = r

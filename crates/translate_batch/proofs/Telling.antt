@@ -10,11 +10,10 @@ use Rattle.lent.proofs.Writes.{splice-read}
 use Rattle.deck.specs.Translation.{deck, refused, translated, buffer_after}
 use Rattle.deck.specs.Translation.{Translated as Outcome}
 use Rattle.refusals.specs.declared.Fault.{Fault}
-use Rattle.refusals.specs.declared.Fault.TheVariants.{BadByte, OutOfPlace, BadName, IllFormed, OverLimit, BadCall, TooLong, BadValue, CounterSpent, LevelSix, CallsSpent, BadDeck, ShortWorkspace, NoRoom, LanguageWord}
 use Rattle.refusals.specs.Numbers.{number_of}
+use Rattle.refusals.proofs.Apart.{numbered-from-1}
 use Rattle.answers.specs.Answers.{refused_answer, deck_answer}
 use Rattle.answers.proofs.Writing.{as_long}
-use Rattle.translating.specs.declared.Translated.TheVariants.{Deck, Refused}
 use Rattle.translating.specs.Answers.{Listed, listing, listed, listed_by, Right}
 use Rattle.translate_batch.specs.Answering.{deck_told, told, answer_to}
 use Rattle.translate_batch.proofs.Told.{IsAnswer, is_answer}
@@ -25,23 +24,6 @@ read-back out s {new} {end} e h l =
     let long = as_long out 0 s e in
     let fits : 0 + length s ≤ length out = omega (arith, h, l, long) in
     ap (λ (k : ℕ). take k new) h ∙ (ap (take (length s)) e ∙ splice-read out 0 s fits)
-
-numbered : (f : Fault) → 1 ≤ number_of f
-numbered BadByte = omega arith
-numbered OutOfPlace = omega arith
-numbered BadName = omega arith
-numbered IllFormed = omega arith
-numbered OverLimit = omega arith
-numbered BadCall = omega arith
-numbered TooLong = omega arith
-numbered BadValue = omega arith
-numbered CounterSpent = omega arith
-numbered LevelSix = omega arith
-numbered CallsSpent = omega arith
-numbered BadDeck = omega arith
-numbered ShortWorkspace = omega arith
-numbered NoRoom = omega arith
-numbered LanguageWord = omega arith
 
 number_in : Listed → ℕ
 number_in (listing n v) = n
@@ -55,7 +37,7 @@ module _ (library before after : Bytes) where
     pub fits : n ≤ length after
     pub says : told (translated library (length before)) ≡ deck_told (take n after)
 
-  deck-by : (n : ℕ) (o : Outcome) → IsAnswer (length before) o → listed (Deck n) ≡ listed_by o → after ≡ buffer_after o before → (n ≤ length after) × (told o ≡ deck_told (take n after))
+  deck-by : (n : ℕ) (o : Outcome) → IsAnswer (length before) o → listed (Ok n) ≡ listed_by o → after ≡ buffer_after o before → (n ≤ length after) × (told o ≡ deck_told (take n after))
   unfolding listed listed_by buffer_after told number_in value_in
   deck-by n (deck d) h e b =
       let size : n ≡ length d = ap value_in e in
@@ -63,18 +45,18 @@ module _ (library before after : Bytes) where
       (omega (arith, size, whole), ap deck_told (sym (ap (take n) b ∙ (ap (λ (k : ℕ). take k (d ++ drop (length d) before)) size ∙ take_at d (drop (length d) before) (length d) refl))))
   deck-by n (refused f m) h e b = let z : 0 ≡ f = ap number_in e in absurd (omega (arith, h, z))
 
-  pub deck-held : (n : ℕ) → Right library before (Deck n) after → Held n
+  pub deck-held : (n : ℕ) → Right library before (Ok n) after → Held n
   deck-held n r =
       let both = deck-by n (translated library (length before)) (is_answer library (length before)) r.answer r.buffer in
       record { fits = both.0; says = both.1 }
 
-  refused-by : (f : Fault) (n : ℕ) (o : Outcome) → IsAnswer (length before) o → listed (Refused f n) ≡ listed_by o → told o ≡ refused_answer (number_of f) n
+  refused-by : (f : Fault) (n : ℕ) (o : Outcome) → IsAnswer (length before) o → listed (Err (record { fault = f; line = n })) ≡ listed_by o → told o ≡ refused_answer (number_of f) n
   unfolding listed listed_by told number_in value_in
-  refused-by f n (deck d) h e = let z : number_of f ≡ 0 = ap number_in e in absurd (omega (arith, numbered f, z))
+  refused-by f n (deck d) h e = let z : number_of f ≡ 0 = ap number_in e in absurd (numbered-from-1 f z)
   refused-by f n (refused g m) h e =
       ap (λ (i : ℕ). refused_answer i m) (sym (ap number_in e)) ∙ ap (refused_answer (number_of f)) (sym (ap value_in e))
 
-  pub refused-says : (f : Fault) (n : ℕ) → Right library before (Refused f n) after → told (translated library (length before)) ≡ refused_answer (number_of f) n
+  pub refused-says : (f : Fault) (n : ℕ) → Right library before (Err (record { fault = f; line = n })) after → told (translated library (length before)) ≡ refused_answer (number_of f) n
   refused-says f n r = refused-by f n (translated library (length before)) (is_answer library (length before)) r.answer
 
 -- ---- one write behind another

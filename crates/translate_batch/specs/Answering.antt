@@ -9,9 +9,7 @@ use Rattle.answers.specs.Answers.{refused_answer, deck_answer}
 use Rattle.batch.specs.declared.Case.{Case}
 use Rattle.batch.specs.declared.Case.TheVariants.{Found, End, Broken}
 use Rattle.batch.specs.Format.{case_at}
-use Rattle.translate_batch.specs.declared.Left.{Left}
-use Rattle.translate_batch.specs.declared.Left.TheVariants.{Nothing}
-use Rattle.translate_batch.specs.declared.Left.TheVariants.{Some as Further}
+use Rattle.translate_batch.specs.declared.Place.{Place}
 
 -- ---- answers
 
@@ -80,10 +78,10 @@ known_length None = 0
 known_length (Some s) = length s
 
 -- reading on from a place: the window shows more of the input; or all of it is shown that the window holds, and it is said whether that is wrong
-abbrev pub ReadsOn : Bytes → ℕ → Bytes → Bool → Option Bytes → Option Bytes → Bytes → Option Bytes → Option Bytes → Left → Type 0
-ReadsOn input place shown ended unread errors window' unread' errors' (Further at used) =
-    Stands input place window' at used unread' × (known_length unread' < known_length unread) × Keeps errors errors'
-ReadsOn input place shown ended unread errors window' unread' errors' Nothing =
+abbrev pub ReadsOn : Bytes → ℕ → Bytes → Bool → Option Bytes → Option Bytes → Bytes → Option Bytes → Option Bytes → Option Place → Type 0
+ReadsOn input place shown ended unread errors window' unread' errors' (Some p) =
+    Stands input place window' p.at p.used unread' × (known_length unread' < known_length unread) × Keeps errors errors'
+ReadsOn input place shown ended unread errors window' unread' errors' None =
     (take (length window') (drop place input) ≡ shown) × Appends errors errors' (choose ended [] message)
 
 -- a step from one place to another: none, or over a case, which is answered
@@ -95,10 +93,10 @@ pub data Moves (input : Bytes) (room : ℕ) (output output' : Option Bytes) : �
       → Moves input room output output' place next
 
 -- a step leaves less of the input unanswered or unread; or it is the last, where no case stands that fits into the window
-abbrev pub Steps : Bytes → ℕ → ℕ → Option Bytes → Option Bytes → Option Bytes → Bytes → Option Bytes → Option Bytes → Option Bytes → Left → Type 0
-Steps input place room unread output errors window' unread' output' errors' (Further at used) =
-    (next : ℕ) × (Stands input next window' at used unread' × (length (drop next input) + known_length unread' < length (drop place input) + known_length unread)
+abbrev pub Steps : Bytes → ℕ → ℕ → Option Bytes → Option Bytes → Option Bytes → Bytes → Option Bytes → Option Bytes → Option Bytes → Option Place → Type 0
+Steps input place room unread output errors window' unread' output' errors' (Some p) =
+    (next : ℕ) × (Stands input next window' p.at p.used unread' × (length (drop next input) + known_length unread' < length (drop place input) + known_length unread)
     × Moves input room output output' place next × Keeps errors errors')
-Steps input place room unread output errors window' unread' output' errors' Nothing =
+Steps input place room unread output errors window' unread' output' errors' None =
     IsNoCase (case_at (take (length window') (drop place input)) 0) × Appends errors errors' (complaint (take (length window') (drop place input)))
     × Appends output output' []

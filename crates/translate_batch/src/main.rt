@@ -10,11 +10,11 @@ ghost use Rattle.translate_batch.specs.Answering.{deck_told, answer_to, input_le
 use std::io;
 use std::io::{Read, Write};
 
-// What is left to do: the next case stands at `at` of the window, whose first `used` bytes are input; or nothing.
+// Where the next case stands in the window, whose first `used` bytes are input.
 #[derive(Clone, Copy)]
-enum Left {
-    Some { at: usize, used: usize },
-    Nothing,
+struct Place {
+    at: usize,
+    used: usize,
 }
 
 // Writes that the library is refused.
@@ -45,20 +45,19 @@ fn respond<W: Write>(output: &mut W, id: &[u8], library: &[u8], deck: &mut [u8])
     output.write_all(b"ANSWER ")?;
     output.write_all(id)?;
     match translating::translate(library, deck) {
-        translating::Translated::Deck { length } => {
+        Ok(length) => {
             if length <= deck.len() {
                 write_deck(output, &deck[..length])?;
             }
             Ok(())
         }
-        translating::Translated::Refused { fault, line } => {
-            write_refused(output, refusals::number(fault), line)
-        }
+        Err(refused) => write_refused(output, u8::from(refused.fault), refused.line),
     }
 }
 
 // Reads until the buffer is full, the input ends or a read fails; answers how many bytes it read to the buffer's front. A read
 // that fails is an error only if it is the first: what was read before is answered, and the next call finds the failure again.
+// A loop, since a reader gives as many bytes as it likes, and std's `read_exact` does not say how many it had where it failed.
 fn read_full<R: Read>(input: &mut R, buffer: &mut [u8]) -> io::Result<usize>
     ensures bound { IfOk result (λ n. n ≤ length buffer.new) }
     ensures bytes { IfOk result (λ n. Consumes (R.remaining input.old) (R.remaining input.new) (take n buffer.new)) }
@@ -80,17 +79,17 @@ fn read_full<R: Read>(input: &mut R, buffer: &mut [u8]) -> io::Result<usize>
     Ok(done)
 }
 
-// Moves the input from `at` to `used` to the window's front and reads more behind it; answers how many bytes are input then.
-fn refill<R: Read>(input: &mut R, window: &mut [u8], at: usize, used: usize) -> io::Result<usize>
-    requires { (at ≤ used) × (used ≤ length window.old) }
-    ensures bounds { IfOk result (λ n. (used - at ≤ n) × (n ≤ length window.new)) }
-    ensures front { IfOk result (λ n. take (used - at) window.new ≡ drop at (take used window.old)) }
-    ensures left { IfOk result (λ n. Keeps (input_left window.old at used (R.remaining input.old))
+// Moves the input that is left to the window's front and reads more behind it; answers how many bytes are input then.
+fn refill<R: Read>(input: &mut R, window: &mut [u8], place: Place) -> io::Result<usize>
+    requires { (place.at ≤ place.used) × (place.used ≤ length window.old) }
+    ensures bounds { IfOk result (λ n. (place.used - place.at ≤ n) × (n ≤ length window.new)) }
+    ensures front { IfOk result (λ n. take (place.used - place.at) window.new ≡ drop place.at (take place.used window.old)) }
+    ensures left { IfOk result (λ n. Keeps (input_left window.old place.at place.used (R.remaining input.old))
         (input_left window.new 0 n (R.remaining input.new))) }
-    ensures end { IfOk result (λ n. n ≡ used - at → n < length window.new → IsAtEnd (R.remaining input.new)) }
+    ensures end { IfOk result (λ n. n ≡ place.used - place.at → n < length window.new → IsAtEnd (R.remaining input.new)) }
 {
-    batch::keep(window, at, used);
-    let kept = used - at;
+    batch::keep(window, place.at, place.used);
+    let kept = place.used - place.at;
     let count = read_full(input, &mut window[kept..])?;
     Ok(kept + count)
 }
@@ -100,48 +99,46 @@ fn more<R: Read, E: Write>(
     input: &mut R,
     errors: &mut E,
     window: &mut [u8],
-    at: usize,
-    used: usize,
+    place: Place,
     ended: bool,
-) -> io::Result<Left>
-    requires { (at ≤ used) × (used ≤ length window.old) }
-    ensures { (whole : Bytes) (place : ℕ) → Stands whole place window.old at used (R.remaining input.old)
-        → IfOk result (ReadsOn whole place (drop at (take used window.old)) ended (R.remaining input.old) (E.contents errors.old)
+) -> io::Result<Option<Place>>
+    requires { (place.at ≤ place.used) × (place.used ≤ length window.old) }
+    ensures { (whole : Bytes) (from : ℕ) → Stands whole from window.old place.at place.used (R.remaining input.old)
+        → IfOk result (ReadsOn whole from (drop place.at (take place.used window.old)) ended (R.remaining input.old) (E.contents errors.old)
         window.new (R.remaining input.new) (E.contents errors.new)) }
 {
-    let now = refill(input, window, at, used)?;
-    if used - at < now {
-        return Ok(Left::Some { at: 0, used: now });
+    let now = refill(input, window, place)?;
+    if place.used - place.at < now {
+        return Ok(Some(Place { at: 0, used: now }));
     }
     if !ended {
         errors.write_all(
             b"translate_batch: a case starts: CASE id library program output workspace\n",
         )?;
     }
-    Ok(Left::Nothing)
+    Ok(None)
 }
 
-// Answers the case at `at`, or goes on with more input.
+// Answers the case at a place, or goes on with more input.
 fn step<R: Read, W: Write, E: Write>(
     input: &mut R,
     output: &mut W,
     errors: &mut E,
     window: &mut [u8],
     deck: &mut [u8],
-    at: usize,
-    used: usize,
-) -> io::Result<Left>
-    ensures { (whole : Bytes) (place : ℕ) → Stands whole place window.old at used (R.remaining input.old)
-        → IfOk result (Steps whole place (length deck.old) (R.remaining input.old) (W.contents output.old) (E.contents errors.old)
+    place: Place,
+) -> io::Result<Option<Place>>
+    ensures { (whole : Bytes) (from : ℕ) → Stands whole from window.old place.at place.used (R.remaining input.old)
+        → IfOk result (Steps whole from (length deck.old) (R.remaining input.old) (W.contents output.old) (E.contents errors.old)
         window.new (R.remaining input.new) (W.contents output.new) (E.contents errors.new)) }
 {
-    if window.len() < used {
-        return Ok(Left::Nothing);
+    if window.len() < place.used {
+        return Ok(None);
     }
-    if used < at {
-        return Ok(Left::Nothing);
+    if place.used < place.at {
+        return Ok(None);
     }
-    match batch::case_at(&window[..used], at) {
+    match batch::case_at(&window[..place.used], place.at) {
         batch::Case::Found {
             id,
             blank,
@@ -153,10 +150,10 @@ fn step<R: Read, W: Write, E: Write>(
             workspace: _,
         } => {
             respond(output, &window[id..blank], &window[library..program], deck)?;
-            Ok(Left::Some { at: next, used })
+            Ok(Some(Place { at: next, ..place }))
         }
-        batch::Case::End => more(input, errors, window, at, used, true),
-        batch::Case::Broken => more(input, errors, window, at, used, false),
+        batch::Case::End => more(input, errors, window, place, true),
+        batch::Case::Broken => more(input, errors, window, place, false),
     }
 }
 
@@ -173,20 +170,11 @@ fn run<R: Read, W: Write, E: Write>(
         → Answers whole (length window.old) (length deck.old)
         (W.contents output.old) (W.contents output.new) (E.contents errors.old) (E.contents errors.new))) }
 {
-    let mut at = 0;
-    let mut used = 0;
+    let mut place = Place { at: 0, used: 0 };
     for _ in 0..u64::MAX {
-        match step(input, output, errors, window, deck, at, used)? {
-            Left::Some {
-                at: next,
-                used: now,
-            } => {
-                at = next;
-                used = now;
-            }
-            Left::Nothing => {
-                return Ok(());
-            }
+        match step(input, output, errors, window, deck, place)? {
+            Some(next) => place = next,
+            None => return Ok(()),
         }
     }
     Ok(())

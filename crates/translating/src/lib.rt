@@ -7,12 +7,7 @@ ghost use Rattle.walking.specs.Verdicts.{globals_at, Shared};
 ghost use Rattle.macros.specs.Macros.{Lent};
 ghost use Rattle.translating.specs.Answers.{Right};
 
-// What a translation answers: the deck's length, or a refusal with its line.
-#[derive(Clone, Copy)]
-pub enum Translated {
-    Deck { length: usize },
-    Refused { fault: refusals::Fault, line: usize },
-}
+use refusals::{Fault, Refused};
 
 // The deck of an accepted library, whose globals stand in the first rows of `shared`: written to `deck` if there is room for it.
 fn write(
@@ -24,7 +19,7 @@ fn write(
     kinds: &mut [u8],
     code: &mut [u8],
     deck: &mut [u8],
-) -> Translated
+) -> Result<usize, Refused>
     requires { (verdict library.now ≡ accepted) × (Lent own.old global.old shared.old kinds.old code.old × Shared (globals_at library.now) globals shared.old kinds.old) }
     ensures { Right library.now deck.old result deck.new }
 {
@@ -32,17 +27,17 @@ fn write(
     let length = macros::put_deck(library, globals, own, global, shared, kinds, code, &mut out);
     let too_small = deck.len() < length;
     if too_small {
-        return Translated::Refused {
-            fault: refusals::Fault::NoRoom,
+        return Err(Refused {
+            fault: Fault::NoRoom,
             line: 0,
-        };
+        });
     }
     lent::copy(deck, 0, &out[0..length]);
-    Translated::Deck { length }
+    Ok(length)
 }
 
 // Translates a library into a deck: the deck's length, and its bytes at the buffer's front; or the refusal of the lowest faulty line, and the buffer as it was.
-pub fn translate(library: &[u8], deck: &mut [u8]) -> Translated
+pub fn translate(library: &[u8], deck: &mut [u8]) -> Result<usize, Refused>
     ensures { Right library.now deck.old result deck.new }
 {
     let mut titles = [0u8; 264];
@@ -51,7 +46,7 @@ pub fn translate(library: &[u8], deck: &mut [u8]) -> Translated
     let mut shared = [0u8; 1024];
     let mut kinds = [0u8; 192];
     let mut code = [0u8; 71];
-    let checked = walking::check(
+    let globals = walking::check(
         library,
         &mut titles,
         &mut own,
@@ -59,21 +54,15 @@ pub fn translate(library: &[u8], deck: &mut [u8]) -> Translated
         &mut shared,
         &mut kinds,
         &mut code,
-    );
-    match checked {
-        walking::Checked::Accepted { macros: _, globals } => write(
-            library,
-            globals,
-            &mut own,
-            &mut global,
-            &mut shared,
-            &mut kinds,
-            &mut code,
-            deck,
-        ),
-        walking::Checked::Faulty { number, line } => Translated::Refused {
-            fault: refusals::fault_of(number),
-            line,
-        },
-    }
+    )?;
+    write(
+        library,
+        globals,
+        &mut own,
+        &mut global,
+        &mut shared,
+        &mut kinds,
+        &mut code,
+        deck,
+    )
 }

@@ -1,26 +1,34 @@
 -- A chain of operands goes on as its loop in the code does: grammar's Chains, with values. Assumes nothing.
-use mathlib.Core.Path.{◌≡◌, refl, sym, ap, ◌∙◌}
+use mathlib.Core.Path.{◌≡◌, refl, sym, ap, ◌∙◌, subst}
 use mathlib.Core.Bool.{Bool, true, false, true≢false}
 use mathlib.Core.List.{List, [], ◌∷◌, map}
 use mathlib.Core.Option.{Option, none, some}
 use Prim.Native.Nat.{ℕ, suc, ◌+◌, ◌<◌, ◌≤◌}
 use native.Mathlib.Omega.{arith}
 use native.Mathlib.Nat.{le_refl}
-use lib.Dec.{eqb}
 use lib.ListN.{length, drop, length-append}
 use lib.IntN.{ℤ}
-use Rattle.text.specs.Bytes.{Bytes, member}
+use Rattle.text.specs.Bytes.{Bytes}
 use Rattle.rules.specs.Lexemes.{Lex}
 use Rattle.rules.specs.Values.{operate}
 use Rattle.rules.specs.Grammar.{Got, got, refused, plain, rest, then, given, goes_on, turn, chain}
 use Rattle.rules.specs.Evaluate.{Cell}
 use Rattle.grammar.proofs.While.{Falls, Going, going-ends, going_less, going_on}
-use Rattle.value_sums.specs.declared.Number.{Number}
-use Rattle.value_sums.specs.declared.Number.TheVariants.{Value, Refused}
-use Rattle.value_sums.specs.Answers.{lex_by, toks_by, tells}
-use Rattle.value_sums.proofs.Answers.{toks-drop}
+use Rattle.std.specs.Prelude.{Result, Ok, Err, Some, None}
+use Rattle.std.specs.Prelude.{Option as Maybe}
+use Rattle.std.specs.Result.{IsErrAnd}
+use Rattle.std.proofs.lemmas.Result.{err_from_is_err_and}
+use Rattle.rules.specs.Choice.{choose}
+use Rattle.grammar.specs.Tokens.{toks_at}
+use Rattle.grammar.proofs.Answers.{found, found-at, ended}
+use Rattle.value_sums.specs.declared.Read.{Read}
+use Rattle.value_sums.specs.declared.Refused.{Refused}
+use Rattle.value_sums.specs.Answers.{lex_by, toks_by, tells_as, tells}
+use Rattle.value_sums.proofs.Answers.{toks-drop, same-plain, then-read, then-refused}
 use Rattle.value_wholes.proofs.Rules.{Passes}
-use Rattle.value_arithmetic.specs.Evaluating.{goes_by, Next, operated}
+
+abbrev pub Number : Type 0
+Number = Result (Read ℤ) Refused
 
 -- what is left to read
 unfoldable pub size : Got ℤ Cell → ℕ
@@ -28,18 +36,16 @@ size (got v x) = length x
 size (refused e n) = 0
 
 -- the same, by the place
-unfoldable pub left_in : Bytes → Number → ℕ
-left_in code (Value z n) = length (drop n code)
-left_in code (Refused e n) = 0
+abbrev pub to_read : Bytes → Read ℤ → ℕ
+to_read code r = length (drop r.next code)
 
-size_is : (held : ℕ → Cell) (code : Bytes) (s : Number) → size (tells (toks_by held code) s) ≡ left_in code s
-unfolding size tells left_in toks_by
-size_is held code (Value z n) = go (drop n code)
+size_is : (held : ℕ → Cell) (code : Bytes) (r : Read ℤ) → size (got r.value (toks_by held code r.next)) ≡ to_read code r
+unfolding size toks_by
+size_is held code r = go (drop r.next code)
   where
     go : (l : Bytes) → length (map (lex_by held) l) ≡ length l
     go [] = refl
     go (b ∷ l) = ap suc (go l)
-size_is held code (Refused e n) = refl
 
 passes-size : {x : List (Lex Cell)} {g : Got ℤ Cell} → Passes x g → size g ≤ length x
 unfolding size
@@ -55,12 +61,22 @@ given-size (got w y) x join = go (join w)
     go (some v) = le_refl (length y)
 given-size (refused e n) x join = le_refl 0
 
--- what stands behind the operator
-pub next-then : {A : Type 0} {goes : List (Lex Cell) → Bool} {from : ℕ → List (Lex Cell)} {r : ℕ} (s : Got ℤ Cell) → Next goes from s r → (r ≡ 0 → ⊥)
-    → (f : ℤ → List (Lex Cell) → List (Lex Cell) → Got A Cell) → then s (λ v x. f v x (drop 1 x)) ≡ then s (λ v x. f v x (from r))
-unfolding then
-next-then (got v x) n z f = ap (f v x) (n.next z v x refl)
-next-then (refused e l) n z f = refl
+-- the refusal that `?` hands on
+same-refusal : {A : Type 0} (s : Result (Read A) Refused) {e : Refused} → IsErrAnd s (λ d. d ≡ e) → s ≡ Err e
+same-refusal s out = let p = err_from_is_err_and s out in p.1 ∙ ap Err p.2
+
+-- what comes behind a reading that `?` stops or lets go on
+module _ {A B W : Type 0} (is : A → B) (from : ℕ → List (Lex Cell)) (k : B → List (Lex Cell) → Got W Cell) {r : Result (Read A) Refused} {g : Got B Cell} (read : tells_as is from r ≡ g) where
+  pub read-on : {b : Read A} → r ≡ Ok b → k (is b.value) (from b.next) ≡ then g k
+  read-on e = sym (then-read is from k {s = r} e) ∙ ap (λ g. then g k) read
+
+  pub read_off : {C : Type 0} (told : C → W) {e : Refused} → r ≡ Err e → (s : Result (Read C) Refused) → IsErrAnd s (λ d. d ≡ e) → tells_as told from s ≡ then g k
+  read_off told e s out = ap (tells_as told from) (same-refusal s out) ∙ then-refused is from k {s = r} told e ∙ ap (λ g. then g k) read
+
+-- an operator of one byte is where grammar finds it, whatever the symbols stand for
+pub operand-by : (test : ℕ → Bool) (held : ℕ → Cell) (code : Bytes) (at : ℕ) {o : Maybe ℕ} → o ≡ choose (test (plain (toks_at [] code at))) (Some (at + 1)) None
+    → o ≡ choose (test (plain (toks_by held code at))) (Some (at + 1)) None
+operand-by test held code at e = e ∙ ap (λ b. choose (test b) (Some (at + 1)) None) (same-plain [] held code at)
 
 -- a chain of operands: `goes` says where an operator stands
 pub record Chained (goes : List (Lex Cell) → Bool) (operand : List (Lex Cell) → Got ℤ Cell) : Type 0 where
@@ -80,16 +96,6 @@ module _ {goes : List (Lex Cell) → Bool} {operand : List (Lex Cell) → Got �
   abbrev pub chained : List (Lex Cell) → Got ℤ Cell
   chained = chain goes rest operand joins
 
-  test-is : (s : Got ℤ Cell) → test s ≡ goes_by goes s
-  unfolding goes_on goes_by
-  test-is (got v x) = refl
-  test-is (refused e n) = refl
-
-  step_is : (s : Got ℤ Cell) → step s ≡ then s (λ v x. then (operand (drop 1 x)) (λ w y. given (operate (plain x) v w) x y))
-  unfolding turn then rest
-  step_is (got v x) = refl
-  step_is (refused e n) = refl
-
   pub step_less : (s : Got ℤ Cell) → test s ≡ true → size (step s) < size s
   unfolding goes_on turn size rest
   step_less (got v []) e = absurd (true≢false (sym e ∙ k.ends))
@@ -101,81 +107,64 @@ module _ {goes : List (Lex Cell) → Bool} {operand : List (Lex Cell) → Got �
 
   -- the loop of the code over a field: what it has so far comes to the whole of the chain
   module _ (held : ℕ → Cell) (code : Bytes) where
-    abbrev pub Loop : ℕ → Number → Type 0
-    Loop at so_far = Going falling (length (toks_by held code at)) (chained (toks_by held code at)) (tells (toks_by held code) so_far)
+    abbrev pub Stage : ℕ → Got ℤ Cell → Type 0
+    Stage at so_far = Going falling (length (toks_by held code at)) (chained (toks_by held code at)) so_far
 
-    pub loop-starts : (at : ℕ) (so_far : Number) → tells (toks_by held code) so_far ≡ operand (toks_by held code at) → Loop at so_far
+    abbrev pub Loop : ℕ → Read ℤ → Type 0
+    Loop at left = Stage at (got left.value (toks_by held code left.next))
+
+    off : (e : Refused) → test (tells (toks_by held code) (Err e)) ≡ false
+    unfolding tells_as goes_on
+    off e = refl
+
+    pub loop-starts : (at : ℕ) (r : Number) → tells (toks_by held code) r ≡ operand (toks_by held code at) → Stage at (tells (toks_by held code) r)
     unfolding chain
-    loop-starts at so_far e = record { short = rw e (passes-size (k.passes (toks_by held code at))); goes = rw e }
+    loop-starts at r e = record { short = rw e (passes-size (k.passes (toks_by held code at))); goes = rw e }
 
-    module _ (at : ℕ) (so_far : Number) (inv : Loop at so_far) {r : ℕ} (next : Next goes (toks_by held code) (tells (toks_by held code) so_far) r) where
-      pub loop-ends : r ≡ 0 → tells (toks_by held code) so_far ≡ chained (toks_by held code at)
-      loop-ends z = going-ends falling inv (test-is (tells (toks_by held code) so_far) ∙ next.ends z)
+    module _ (at : ℕ) {r : Number} (stage : Stage at (tells (toks_by held code) r)) where
+      pub loop-on : {left : Read ℤ} → r ≡ Ok left → Loop at left
+      unfolding tells_as
+      loop-on e = subst (λ (q : Number). Stage at (tells (toks_by held code) q)) e stage
 
-      module _ (z : r ≡ 0 → ⊥) (right so-far' : Number) (read : tells (toks_by held code) right ≡ operand (toks_by held code r))
-          (joined : tells (toks_by held code) so-far' ≡ operated (tells (toks_by held code) so_far) (tells (toks_by held code) right))
-        where
-          tested : test (tells (toks_by held code) so_far) ≡ true
-          tested = test-is (tells (toks_by held code) so_far) ∙ next.goes-on z
+      pub loop-refused : {e : Refused} → r ≡ Err e → (s : Number) → IsErrAnd s (λ d. d ≡ e) → tells (toks_by held code) s ≡ chained (toks_by held code at)
+      loop-refused {e} is s out = ap (tells (toks_by held code)) (same-refusal s out) ∙ going-ends falling (subst (λ (q : Number). Stage at (tells (toks_by held code) q)) is stage) (off e)
 
-          turned : tells (toks_by held code) so-far' ≡ step (tells (toks_by held code) so_far)
-          unfolding operated
-          turned = joined ∙ ap (operated (tells (toks_by held code) so_far)) read
-              ∙ sym (step_is (tells (toks_by held code) so_far) ∙ next-then (tells (toks_by held code) so_far) next z (λ v x u. then (operand u) (λ w y. given (operate (plain x) v w) x y)))
+    module _ (at : ℕ) (left : Read ℤ) (inv : Loop at left) {o : Maybe ℕ} (next : o ≡ choose (goes (toks_by held code left.next)) (Some (left.next + 1)) None) where
+      pub loop-ends : o ≡ None → tells (toks_by held code) (Ok left) ≡ chained (toks_by held code at)
+      unfolding tells_as goes_on
+      loop-ends z = going-ends falling inv (ended _ _ next z)
 
-          pub loop-less : left_in code so-far' < left_in code so_far
-          loop-less = let less = going_less falling inv tested turned in let a = size_is held code so-far' in let b = size_is held code so_far in omega arith
+      module _ {n : ℕ} (z : o ≡ Some n) (right : Number) (read : tells (toks_by held code) right ≡ operand (toks_by held code n)) where
+        tested : test (got left.value (toks_by held code left.next)) ≡ true
+        unfolding goes_on
+        tested = found _ _ next z
 
-          pub loop-again : Loop at so-far'
-          loop-again = going_on falling inv tested turned
+        -- both operands, joined
+        abbrev joins-right : ℤ → List (Lex Cell) → Got ℤ Cell
+        joins-right w y = given (operate (plain (toks_by held code left.next)) left.value w) (toks_by held code left.next) y
 
--- ---- whether an operator follows
+        turned : then (tells (toks_by held code) right) joins-right ≡ step (got left.value (toks_by held code left.next))
+        unfolding turn then rest
+        turned = ap (λ g. then g joins-right) (read ∙ ap (λ m. operand (toks_by held code m)) (found-at _ _ next z) ∙ ap operand (sym (toks-drop held code left.next 1)))
 
-rest_of : Got ℤ Cell → List (Lex Cell)
-rest_of (got v x) = x
-rest_of (refused e n) = []
+        -- a refused operand refuses the chain
+        pub operand-refused : {e : Refused} → right ≡ Err e → (s : Number) → IsErrAnd s (λ d. d ≡ e) → tells (toks_by held code) s ≡ chained (toks_by held code at)
+        operand-refused {e} is s out =
+            let same = ap (tells (toks_by held code)) (same-refusal s out) ∙ then-refused (λ z. z) (toks_by held code) joins-right {s = right} (λ z. z) is in
+            same ∙ going-ends falling (going_on falling inv tested turned) (ap test (sym same ∙ ap (tells (toks_by held code)) (same-refusal s out)) ∙ off e)
 
-module _ (held : ℕ → Cell) (code : Bytes) (goes : List (Lex Cell) → Bool) where
-  abbrev pub NextOf : Number → ℕ → Type 0
-  NextOf so_far r = Next goes (toks_by held code) (tells (toks_by held code) so_far) r
+        -- the operation on both
+        module _ {b : Read ℤ} (is : right ≡ Ok b) (s : Number) (joined : tells (toks_by held code) s ≡ joins-right b.value (toks_by held code b.next)) where
+          again : tells (toks_by held code) s ≡ step (got left.value (toks_by held code left.next))
+          again = joined ∙ sym (then-read (λ z. z) (toks_by held code) joins-right {s = right} is) ∙ turned
 
-  pub next-found : {so_far : Number} {v : ℤ} {at : ℕ} → so_far ≡ Value v at → goes (toks_by held code at) ≡ true → NextOf so_far (at + 1)
-  unfolding goes_by tells rest_of
-  next-found {v = v} {at = at} e h = record {
-    ends = λ z. absurd (omega arith);
-    goes-on = λ z. rw e h;
-    next = λ z w x h. sym (ap (λ g. drop 1 (rest_of g)) (sym (ap (tells (toks_by held code)) e) ∙ h)) ∙ toks-drop held code at 1;
-  }
+          pub loop-again : Stage at (tells (toks_by held code) s)
+          loop-again = going_on falling inv tested again
 
-  pub next-ended : {so_far : Number} {v : ℤ} {at : ℕ} → so_far ≡ Value v at → goes (toks_by held code at) ≡ false → NextOf so_far 0
-  unfolding goes_by tells
-  next-ended e h = record { ends = λ z. rw e h; goes-on = λ z. absurd (z refl); next = λ z v x h. absurd (z refl) }
-
-  pub next-refused : {so_far : Number} {n at : ℕ} → so_far ≡ Refused n at → NextOf so_far 0
-  unfolding goes_by tells
-  next-refused e = record { ends = λ z. rw e; goes-on = λ z. absurd (z refl); next = λ z v x h. absurd (z refl) }
-
--- one of two operators
-module _ (a b : ℕ) (from : ℕ → List (Lex Cell)) (s : Got ℤ Cell) where
-  abbrev is_either : List (Lex Cell) → Bool
-  is_either x = member (plain x) (a ∷ b ∷ [])
-
-  pub next-first : {r : ℕ} → Next (λ x. eqb (plain x) a) from s r → (r ≡ 0 → ⊥) → Next is_either from s r
-  unfolding goes_by
-  next-first n z = record { ends = λ e. absurd (z e); goes-on = λ y. go s (n.goes-on y); next = n.next }
-    where
-      go : (s : Got ℤ Cell) → goes_by (λ x. eqb (plain x) a) s ≡ true → goes_by is_either s ≡ true
-      go (got v x) e = rw e
-      go (refused f l) e = e
-
-  pub next-second : {q r : ℕ} → Next (λ x. eqb (plain x) a) from s q → q ≡ 0 → Next (λ x. eqb (plain x) b) from s r → Next is_either from s r
-  unfolding goes_by
-  next-second m y n = record { ends = λ z. stops s (m.ends y) (n.ends z); goes-on = λ z. goes s (m.ends y) (n.goes-on z); next = n.next }
-    where
-      stops : (s : Got ℤ Cell) → goes_by (λ x. eqb (plain x) a) s ≡ false → goes_by (λ x. eqb (plain x) b) s ≡ false → goes_by is_either s ≡ false
-      stops (got v x) e f = rw (e, f)
-      stops (refused g l) e f = e
-
-      goes : (s : Got ℤ Cell) → goes_by (λ x. eqb (plain x) a) s ≡ false → goes_by (λ x. eqb (plain x) b) s ≡ true → goes_by is_either s ≡ true
-      goes (got v x) e f = rw (e, f)
-      goes (refused g l) e f = f
+          pub loop-less : {left' : Read ℤ} → s ≡ Ok left' → to_read code left' < to_read code left
+          unfolding tells_as
+          loop-less {left'} e =
+              let less = going_less falling inv tested (ap (tells (toks_by held code)) (sym e) ∙ again) in
+              let a = size_is held code left' in
+              let b = size_is held code left in
+              omega arith

@@ -1,8 +1,8 @@
 -- The rules of arithmetic with values, as the code goes through them: one law for each case that it tells apart. Assumes nothing.
 use mathlib.Core.Path.{◌≡◌, refl, sym, ap, ◌∙◌, subst}
-use mathlib.Core.Bool.{Bool, true, false}
+use mathlib.Core.Bool.{Bool, true, false, true≢false}
 use mathlib.Core.List.{List, [], ◌∷◌}
-use mathlib.Core.Option.{some}
+use mathlib.Core.Option.{Option}
 use Prim.Native.Nat.{ℕ, zero, suc, ◌+◌, ◌-◌, ◌<◌, ◌≤◌}
 use native.Mathlib.Omega.{arith}
 use native.Mathlib.Numerals.{sub-one}
@@ -15,40 +15,58 @@ use Rattle.text.specs.Characters.{digit}
 use Rattle.rules.specs.Choice.{choose}
 use Rattle.rules.specs.Lexemes.{Lex, byte, mark, ref, lone, comma}
 use Rattle.rules.specs.Fields.{is_empty}
-use Rattle.rules.specs.Statement.{set_a, set_b, set_c}
-use Rattle.rules.specs.Values.{operate}
-use Rattle.rules.specs.Grammar.{Kind, parameter, symbol, syslist, sysndx, sysect, unknown, Got, got, refused, Reference, plain, rest, is_attribute, then, broken, given, closed}
+use Rattle.rules.specs.Grammar.{Kind, parameter, symbol, syslist, sysndx, sysect, unknown, Got, got, Reference, plain, rest, is_attribute, then, broken, given, closed}
 use Rattle.rules.specs.Grammar.{subscripts, reference, referred, decimal_number, term, product, sum, deeper, arithmetic}
 use Rattle.rules.specs.Evaluate.{Cell, values}
 use Rattle.rules.proofs.Choices.{by, chosen, passed_over}
-use Rattle.grammar.specs.Kinds.{number_of, table_of}
-use Rattle.value_sums.specs.declared.Whole.{Whole}
-use Rattle.value_sums.specs.declared.Number.{Number}
-use Rattle.value_sums.specs.declared.Number.TheVariants.{Value}
-use Rattle.value_sums.specs.declared.Number.TheVariants.{Refused as Wrong}
-use Rattle.value_sums.specs.Answers.{option_of, lex_by, toks_by, tells}
+use Rattle.std.specs.Prelude.{Result, Ok, Err, Some, None}
+use Rattle.std.specs.Prelude.{Option as Maybe}
+use Rattle.kinds.specs.declared.Kind.{Kind as Kept}
+use Rattle.kinds.specs.declared.Kind.TheVariants.{Parameter, List as Listed}
+use Rattle.kinds.specs.declared.Stand.{Stand}
+use Rattle.kinds.specs.declared.Stand.TheVariants.{Term, AfterK, AfterN}
+use Rattle.kinds.specs.Kinds.{kind_for, table_of}
+use Rattle.refusals.specs.declared.Fault.TheVariants.{IllFormed, OverLimit}
+use Rattle.value_sums.specs.declared.Read.{Read}
+use Rattle.value_sums.specs.declared.Refused.{Refused}
+use Rattle.value_sums.specs.Answers.{lex_by, toks_by, tells_as, tells}
 use Rattle.value_sums.proofs.Places.{toks-end, toks-step}
-use Rattle.value_sums.proofs.Answers.{toks-rest, then-value}
+use Rattle.value_sums.proofs.Answers.{closed-as}
 use Rattle.value_wholes.proofs.Rules.{passes-term, passes-product, passes-deeper}
-use Rattle.value_references.specs.declared.Referred.{Referred}
-use Rattle.value_references.specs.declared.Referred.TheVariants.{Bare, One, Two, Refused}
-use Rattle.value_references.specs.Referring.{ref_to, tells_reference, subscripts_of, kind_by, meaning_of}
-use Rattle.value_references.proofs.Standing.{is-parameter, is-list}
-use Rattle.value_arithmetic.specs.Evaluating.{goes_by, operated, judged_by}
+use Rattle.value_references.specs.declared.Subscripts.{Subscripts}
+use Rattle.value_references.specs.declared.Subscripts.TheVariants.{Bare, One, Two}
+use Rattle.value_references.specs.Referring.{tells_reference, ref_to, kind_by, meaning_of}
+use Rattle.value_references.specs.Referring.{listed as listed_by}
+use Rattle.value_references.proofs.Standing.{is-kind}
+use Rattle.value_arithmetic.specs.Evaluating.{judged_by}
 use Rattle.value_arithmetic.proofs.Chains.{Chained, chained}
 
 -- ---- a variable symbol at a place
 
-pub record RefAt (held : ℕ → Cell) (code : Bytes) (at n b : ℕ) : Type 0 where
-  pub number : n ≡ number_of (held b).kind
+pub record RefAt (held : ℕ → Cell) (code : Bytes) (at : ℕ) (n : Kept) (b : ℕ) : Type 0 where
+  pub kept : n ≡ kind_for (held b).kind
   pub step : toks_by held code at ≡ ref (held b) ∷ toks_by held code (at + 1)
   pub inside : at < length code
   pub low : 128 ≤ b
   pub high : b < 227
 
-pub ref-step : (held : ℕ → Cell) (code : Bytes) (at n : ℕ) → n ≡ kind_by (toks_by held code at) → (n ≡ 255 → ⊥) → RefAt held code at n (get_or code at 0)
+some-is : {n m : Kept} → Some n ≡ Some m → n ≡ m
+some-is {n} e = ap (λ (o : Maybe Kept). or_else n o) e
+  where
+    or_else : Kept → Maybe Kept → Kept
+    or_else k None = k
+    or_else k (Some m) = m
+
+none-not : {n : Kept} → Some n ≡ None → ⊥
+none-not e = true≢false (ap is_there e)
+  where
+    is_there : Maybe Kept → Bool
+    is_there None = false
+    is_there (Some n) = true
+
+pub ref-step : (held : ℕ → Cell) (code : Bytes) (at : ℕ) {n : Kept} → Some n ≡ kind_by (toks_by held code at) → RefAt held code at n (get_or code at 0)
 unfolding kind_by lex_by choose
-ref-step held code at n read other = by (ltb at (length code)) inside (λ e. absurd (other (read ∙ ap kind_by (toks-end held code at (ltb-false _ _ e)))))
+ref-step held code at {n} read = by (ltb at (length code)) inside (λ e. absurd (none-not (read ∙ ap kind_by (toks-end held code at (ltb-false _ _ e)))))
   where
     b : ℕ
     b = get_or code at 0
@@ -56,85 +74,63 @@ ref-step held code at n read other = by (ltb at (length code)) inside (λ e. abs
     x : List (Lex Cell)
     x = toks_by held code (at + 1)
 
-    lexeme : (l : Lex Cell) → lex_by held b ≡ l → at < length code → n ≡ kind_by (l ∷ x)
+    lexeme : (l : Lex Cell) → lex_by held b ≡ l → at < length code → Some n ≡ kind_by (l ∷ x)
     lexeme l e i = read ∙ ap kind_by (toks-step held code at i ∙ ap (λ l. l ∷ x) e)
 
     inside : ltb at (length code) ≡ true → RefAt held code at n b
     inside t =
         let i = ltb-true _ _ t in
-        by (ltb b 127) (λ e. absurd (other (lexeme (byte b) (chosen _ _ e) i))) λ e.
-        by (eqb b 127) (λ f. absurd (other (lexeme mark (passed_over _ _ e ∙ chosen _ _ f) i))) λ f.
+        by (ltb b 127) (λ e. absurd (none-not (lexeme (byte b) (chosen _ _ e) i))) λ e.
+        by (eqb b 127) (λ f. absurd (none-not (lexeme mark (passed_over _ _ e ∙ chosen _ _ f) i))) λ f.
         by (ltb b 227)
         (λ g. let is : lex_by held b ≡ ref (held b) = passed_over _ _ e ∙ passed_over _ _ f ∙ chosen _ _ g in
         let p = ltb-false b 127 e in let q = eqb-false b 127 f in
-        record { number = lexeme (ref (held b)) is i; step = toks-step held code at i ∙ ap (λ l. l ∷ x) is; inside = i; low = omega arith; high = ltb-true b 227 g })
-        (λ g. absurd (other (lexeme lone (passed_over _ _ e ∙ passed_over _ _ f ∙ passed_over _ _ g) i)))
+        record { kept = some-is (lexeme (ref (held b)) is i); step = toks-step held code at i ∙ ap (λ l. l ∷ x) is; inside = i; low = omega arith; high = ltb-true b 227 g })
+        (λ g. absurd (none-not (lexeme lone (passed_over _ _ e ∙ passed_over _ _ f ∙ passed_over _ _ g) i)))
 
 -- by the byte that was read
-pub ref-by : (held : ℕ → Cell) (code : Bytes) (at n b : ℕ) → b ≡ get_or code at 0 → n ≡ kind_by (toks_by held code at) → (n ≡ 255 → ⊥) → RefAt held code at n b
-ref-by held code at n b e read other = subst (λ b. RefAt held code at n b) (sym e) (ref-step held code at n read other)
+pub ref-by : (held : ℕ → Cell) (code : Bytes) (at b : ℕ) {n : Kept} → b ≡ get_or code at 0 → Some n ≡ kind_by (toks_by held code at) → RefAt held code at n b
+ref-by held code at b {n} e read = subst (λ b. RefAt held code at n b) (sym e) (ref-step held code at read)
 
 -- ---- subscripts
 
 module _ (from : ℕ → List (Lex Cell)) (c : Cell) (n : ℕ) where
-  pub tells-bare : tells_reference c from (Bare n) ≡ got (ref_to c []) (from n)
-  unfolding tells_reference
+  pub tells-bare : tells_reference c from (Ok (record { value = Bare; next = n })) ≡ got (ref_to c []) (from n)
+  unfolding tells_as listed_by
   tells-bare = refl
 
-  pub tells-ill : tells_reference c from (Refused 4 n) ≡ broken (from n)
-  unfolding tells_reference broken
+  pub tells-ill : tells_reference c from (Err (record { fault = IllFormed; at = n })) ≡ broken (from n)
+  unfolding tells_as broken
   tells-ill = refl
 
-module _ (from : ℕ → List (Lex Cell)) (c : Cell) (k : ℤ → List (Lex Cell) → Got (Reference Cell ℤ) Cell) {s : Number} where
-  pub then-off : {e n : ℕ} → s ≡ Wrong e n → tells_reference c from (Refused e n) ≡ then (tells from s) k
-  unfolding tells_reference then tells
-  then-off h = sym (ap (λ s. then (tells from s) k) h)
-
 -- the parenthesis that closes
-module _ (held : ℕ → Cell) (code : Bytes) (cell : Cell) {s : Number} {a : ℤ} {at c : ℕ} (e : s ≡ Value a at) (read : c ≡ plain (toks_by held code at)) where
-  abbrev from : ℕ → List (Lex Cell)
-  from = toks_by held code
+module _ (from : ℕ → List (Lex Cell)) (c : Cell) (r : Result (Read Subscripts) Refused) (next : ℕ) where
+  pub one-closed : (a : ℤ) → tells_as (λ v. v) from r ≡ closed (One a) (from next) → tells_reference c from r ≡ closed (ref_to c (a ∷ [])) (from next)
+  unfolding listed_by
+  one-closed a h = closed-as (λ l. ref_to c (listed_by l)) from r (One a) (from next) h
 
-  shut : (k : ℤ → Reference Cell ℤ) → c ≡ 41 → got (k a) (from (at + 1)) ≡ then (tells from s) (λ n y. closed (k n) y)
-  unfolding closed
-  shut k h = ap (got (k a)) (sym (toks-rest held code at)) ∙ sym (then-value from (λ n y. closed (k n) y) e ∙ chosen _ _ (ap (λ b. eqb b 41) (sym read ∙ h)))
-
-  open-still : (k : ℤ → Reference Cell ℤ) → (c ≡ 41 → ⊥) → broken (from at) ≡ then (tells from s) (λ n y. closed (k n) y)
-  unfolding closed
-  open-still k h = sym (then-value from (λ n y. closed (k n) y) e ∙ passed_over _ _ (ap (λ b. eqb b 41) (sym read) ∙ ne_eqb c 41 h))
-
-  pub one-shut : c ≡ 41 → tells_reference cell from (One a (at + 1)) ≡ then (tells from s) (λ n y. closed (ref_to cell (n ∷ [])) y)
-  unfolding tells_reference
-  one-shut h = shut (λ n. ref_to cell (n ∷ [])) h
-
-  pub one-open : (c ≡ 41 → ⊥) → tells_reference cell from (Refused 4 at) ≡ then (tells from s) (λ n y. closed (ref_to cell (n ∷ [])) y)
-  one-open h = tells-ill from cell at ∙ open-still (λ n. ref_to cell (n ∷ [])) h
-
-  pub two-shut : (b : ℤ) → c ≡ 41 → tells_reference cell from (Two b a (at + 1)) ≡ then (tells from s) (λ n y. closed (ref_to cell (b ∷ (n ∷ []))) y)
-  unfolding tells_reference
-  two-shut b h = shut (λ n. ref_to cell (b ∷ (n ∷ []))) h
-
-  pub two-open : (b : ℤ) → (c ≡ 41 → ⊥) → tells_reference cell from (Refused 4 at) ≡ then (tells from s) (λ n y. closed (ref_to cell (b ∷ (n ∷ []))) y)
-  two-open b h = tells-ill from cell at ∙ open-still (λ n. ref_to cell (b ∷ (n ∷ []))) h
+  pub two-closed : (a b : ℤ) → tells_as (λ v. v) from r ≡ closed (Two a b) (from next) → tells_reference c from r ≡ closed (ref_to c (a ∷ (b ∷ []))) (from next)
+  unfolding listed_by
+  two-closed a b h = closed-as (λ l. ref_to c (listed_by l)) from r (Two a b) (from next) h
 
 module _ (inner : List (Lex Cell) → Got ℤ Cell) (c : Cell) where
   abbrev pub listed : ℤ → List (Lex Cell) → Got (Reference Cell ℤ) Cell
   listed n y = choose (eqb (plain y) comma) (then (inner (rest y)) λ m z. closed (ref_to c (n ∷ (m ∷ []))) z) (closed (ref_to c (n ∷ [])) y)
 
-  module _ (n : ℕ) (k : Kind) (x : List (Lex Cell)) (e : n ≡ number_of k) where
-    pub sub-parameter : n ≡ 0 → then (inner (rest x)) (λ n y. closed (ref_to c (n ∷ [])) y) ≡ subscripts values inner k c x
+  module _ (n : Kept) (k : Kind) (x : List (Lex Cell)) (e : n ≡ kind_for k) where
+    pub sub-parameter : n ≡ Parameter → then (inner (rest x)) (λ n y. closed (ref_to c (n ∷ [])) y) ≡ subscripts values inner k c x
     unfolding subscripts
-    sub-parameter h = sym (ap (λ k. subscripts values inner k c x) (is-parameter e h))
+    sub-parameter h = sym (ap (λ k. subscripts values inner k c x) (is-kind e h))
 
-    pub sub-list : n ≡ 5 → then (inner (rest x)) listed ≡ subscripts values inner k c x
+    pub sub-list : n ≡ Listed → then (inner (rest x)) listed ≡ subscripts values inner k c x
     unfolding subscripts
-    sub-list h = sym (ap (λ k. subscripts values inner k c x) (is-list e h))
+    sub-list h = sym (ap (λ k. subscripts values inner k c x) (is-kind e h))
 
-    pub sub-none : (n ≡ 0 → ⊥) → (n ≡ 5 → ⊥) → broken x ≡ subscripts values inner k c x
-    unfolding subscripts number_of
+    pub sub-none : (n ≡ Parameter → ⊥) → (n ≡ Listed → ⊥) → broken x ≡ subscripts values inner k c x
+    unfolding subscripts
     sub-none h i = go k (λ z. h (e ∙ z)) (λ z. i (e ∙ z))
       where
-        go : (k : Kind) → (number_of k ≡ 0 → ⊥) → (number_of k ≡ 5 → ⊥) → broken x ≡ subscripts values inner k c x
+        go : (k : Kind) → (kind_for k ≡ Parameter → ⊥) → (kind_for k ≡ Listed → ⊥) → broken x ≡ subscripts values inner k c x
         go parameter h i = absurd (h refl)
         go (symbol s) h i = refl
         go syslist h i = absurd (i refl)
@@ -142,28 +138,15 @@ module _ (inner : List (Lex Cell) → Got ℤ Cell) (c : Cell) where
         go sysect h i = refl
         go unknown h i = refl
 
-  pub list-one : (s : Got ℤ Cell) → goes_by (λ x. eqb (plain x) 44) s ≡ false → then s (λ n y. closed (ref_to c (n ∷ [])) y) ≡ then s listed
-  unfolding goes_by then
-  list-one (got v x) e = sym (passed_over _ _ e)
-  list-one (refused f l) e = refl
+  -- behind the first subscript: it closes, or a second one stands there
+  module _ (n : ℤ) (y : List (Lex Cell)) where
+    pub list-one : eqb (plain y) comma ≡ false → closed (ref_to c (n ∷ [])) y ≡ listed n y
+    list-one e = sym (passed_over _ _ e)
 
-  pub list-two : (s : Got ℤ Cell) → goes_by (λ x. eqb (plain x) 44) s ≡ true → then s (λ n y. then (inner (drop 1 y)) λ m z. closed (ref_to c (n ∷ (m ∷ []))) z) ≡ then s listed
-  unfolding goes_by then rest
-  list-two (got v x) e = sym (chosen _ _ e)
-  list-two (refused f l) e = refl
+    pub list-two : eqb (plain y) comma ≡ true → then (inner (rest y)) (λ m z. closed (ref_to c (n ∷ (m ∷ []))) z) ≡ listed n y
+    list-two e = sym (chosen _ _ e)
 
 -- ---- references
-
-pub number_small : (k : Kind) → number_of k < 255
-unfolding number_of
-number_small parameter = omega arith
-number_small (symbol set_a) = omega arith
-number_small (symbol set_b) = omega arith
-number_small (symbol set_c) = omega arith
-number_small syslist = omega arith
-number_small sysndx = omega arith
-number_small sysect = omega arith
-number_small unknown = omega arith
 
 module _ (inner : List (Lex Cell) → Got ℤ Cell) where
   module _ (cell : Cell) {x y : List (Lex Cell)} (step : x ≡ ref cell ∷ y) {c : ℕ} (read : c ≡ plain y) where
@@ -175,60 +158,36 @@ module _ (inner : List (Lex Cell) → Got ℤ Cell) where
     unfolding reference values
     reference-subscripted h = sym (ap (reference values inner) step ∙ chosen _ _ (ap (λ b. eqb b 40) (sym read ∙ h)))
 
-  module _ (table : ℕ) (here : List (Lex Cell)) where
-    pub refers-is : (x : List (Lex Cell)) → then (reference values inner x) (judged_by table here) ≡ referred values inner (table_of table) (meaning_of table) here x
+  module _ (stand : Stand) (here : List (Lex Cell)) where
+    pub refers-is : (x : List (Lex Cell)) → then (reference values inner x) (judged_by stand here) ≡ referred values inner (table_of stand) (meaning_of stand) here x
     unfolding referred judged_by values
     refers-is x = refl
 
-    pub refers-none : (x : List (Lex Cell)) → kind_by x ≡ 255 → broken x ≡ referred values inner (table_of table) (meaning_of table) here x
+    pub refers-none : (x : List (Lex Cell)) → None ≡ kind_by x → broken x ≡ referred values inner (table_of stand) (meaning_of stand) here x
     unfolding referred reference then broken kind_by
     refers-none [] e = refl
     refers-none (byte c ∷ x) e = refl
     refers-none (mark ∷ x) e = refl
-    refers-none (ref c ∷ x) e = let small = number_small c.kind in absurd (omega arith)
+    refers-none (ref c ∷ x) e = absurd (none-not (sym e))
     refers-none (lone ∷ x) e = refl
 
--- what the table makes of a reference that was read
-module _ (table : ℕ) (value : Whole) (so_far : Referred) (c : Cell) (from : ℕ → List (Lex Cell)) (here n : ℕ) (r : Number)
-    (meant : (l : List ℤ) → subscripts_of so_far ≡ some l → table_of table c.kind (is_empty l) ≡ true → option_of value ≡ meaning_of table (ref_to c l))
-  where
-    judged-at : (l : List ℤ) {fits bare : Bool} → subscripts_of so_far ≡ some l → tells_reference c from so_far ≡ got (ref_to c l) (from n) → is_empty l ≡ bare → fits ≡ table_of table c.kind bare
-        → tells from r ≡ choose fits (given (option_of value) (from here) (from n)) (broken (from here)) → tells from r ≡ then (tells_reference c from so_far) (judged_by table (from here))
-    unfolding then judged_by choose
-    judged-at l {fits} {bare} s t e f h =
-        let g : fits ≡ table_of table c.kind (is_empty l) = f ∙ ap (table_of table c.kind) (sym e) in
-        h ∙ by fits
-        (λ y. chosen _ _ y ∙ ap (λ o. given o (from here) (from n)) (meant l s (sym g ∙ y)) ∙ sym (chosen _ _ (sym g ∙ y)))
-        (λ y. passed_over _ _ y ∙ sym (passed_over _ _ (sym g ∙ y)))
-        ∙ sym (ap (λ q. then q (judged_by table (from here))) t)
+-- what a reference that was read stands for, if it may stand there
+pub judged-is : (stand : Stand) (c : Cell) (l : List ℤ) (here y : List (Lex Cell)) {w : Option ℤ} → (table_of stand c.kind (is_empty l) ≡ true → w ≡ meaning_of stand (ref_to c l))
+    → choose (table_of stand c.kind (is_empty l)) (given w here y) (broken here) ≡ judged_by stand here (ref_to c l) y
+unfolding judged_by
+judged-is stand c l here y meant = by (table_of stand c.kind (is_empty l)) (λ t. chosen _ _ t ∙ ap (λ o. given o here y) (meant t) ∙ sym (chosen _ _ t)) (λ t. passed_over _ _ t ∙ sym (passed_over _ _ t))
 
-    module _ {fits : Bool} (told : tells from r ≡ choose fits (given (option_of value) (from here) (from n)) (broken (from here))) where
-      pub judged-bare : so_far ≡ Bare n → fits ≡ table_of table c.kind true → tells from r ≡ then (tells_reference c from so_far) (judged_by table (from here))
-      unfolding subscripts_of tells_reference is_empty
-      judged-bare e f = judged-at [] (ap subscripts_of e) (ap (tells_reference c from) e) refl f told
+pub bare-is : {l : Subscripts} → l ≡ Bare → true ≡ is_empty (listed_by l)
+unfolding listed_by is_empty
+bare-is e = sym (ap (λ l. is_empty (listed_by l)) e)
 
-      pub judged-one : {a : ℤ} → so_far ≡ One a n → fits ≡ table_of table c.kind false → tells from r ≡ then (tells_reference c from so_far) (judged_by table (from here))
-      unfolding subscripts_of tells_reference is_empty
-      judged-one {a} e f = judged-at (a ∷ []) (ap subscripts_of e) (ap (tells_reference c from) e) refl f told
+pub bare-one : {l : Subscripts} {a : ℤ} → l ≡ One a → false ≡ is_empty (listed_by l)
+unfolding listed_by is_empty
+bare-one e = sym (ap (λ l. is_empty (listed_by l)) e)
 
-      pub judged-two : {a b : ℤ} → so_far ≡ Two a b n → fits ≡ table_of table c.kind false → tells from r ≡ then (tells_reference c from so_far) (judged_by table (from here))
-      unfolding subscripts_of tells_reference is_empty
-      judged-two {a} {b} e f = judged-at (a ∷ (b ∷ [])) (ap subscripts_of e) (ap (tells_reference c from) e) refl f told
-
-pub judged-off : {so_far : Referred} (c : Cell) (from : ℕ → List (Lex Cell)) (k : Reference Cell ℤ → List (Lex Cell) → Got ℤ Cell) {e n : ℕ} → so_far ≡ Refused e n → tells from (Wrong e n) ≡ then (tells_reference c from so_far) k
-unfolding tells tells_reference then
-judged-off c from k h = sym (ap (λ s. then (tells_reference c from s) k) h)
-
--- ---- one more operation
-
-module _ (from : ℕ → List (Lex Cell)) (s t : Number) where
-  pub operated-value : {a : ℤ} {here c : ℕ} (r : Number) → s ≡ Value a here → c ≡ plain (from here) → tells from r ≡ then (tells from t) (λ b y. given (operate c a b) (from here) y) → tells from r ≡ operated (tells from s) (tells from t)
-  unfolding operated
-  operated-value {a} {here} r e read h = h ∙ ap (λ c. then (tells from t) (λ b y. given (operate c a b) (from here) y)) read ∙ sym (then-value from (λ a x. then (tells from t) (λ b y. given (operate (plain x) a b) x y)) e)
-
-  pub operated-off : {e n : ℕ} → s ≡ Wrong e n → tells from (Wrong e n) ≡ operated (tells from s) (tells from t)
-  unfolding operated then tells
-  operated-off h = sym (ap (λ s. operated (tells from s) (tells from t)) h)
+pub bare-two : {l : Subscripts} {a b : ℤ} → l ≡ Two a b → false ≡ is_empty (listed_by l)
+unfolding listed_by is_empty
+bare-two e = sym (ap (λ l. is_empty (listed_by l)) e)
 
 -- ---- terms
 
@@ -249,17 +208,17 @@ module _ (inner : List (Lex Cell) → Got ℤ Cell) (x : List (Lex Cell)) {c : �
       no_digit : digit (plain x) ≡ false
       no_digit = rw (← read) d
 
-      pub term-K : is_attribute 75 x ≡ true → term values inner x ≡ referred values inner (table_of 1) (meaning_of 1) x (drop 2 x)
-      unfolding term table_of meaning_of choose values
+      pub term-K : is_attribute 75 x ≡ true → term values inner x ≡ referred values inner (table_of AfterK) (meaning_of AfterK) x (drop 2 x)
+      unfolding term meaning_of choose values
       term-K e = passed_over _ _ no-opening ∙ passed_over _ _ no_digit ∙ chosen _ _ e
 
       module _ (e : is_attribute 75 x ≡ false) where
-        pub term-N : is_attribute 78 x ≡ true → term values inner x ≡ referred values inner (table_of 2) (meaning_of 2) x (drop 2 x)
-        unfolding term table_of meaning_of choose values
+        pub term-N : is_attribute 78 x ≡ true → term values inner x ≡ referred values inner (table_of AfterN) (meaning_of AfterN) x (drop 2 x)
+        unfolding term meaning_of choose values
         term-N f = passed_over _ _ no-opening ∙ passed_over _ _ no_digit ∙ passed_over _ _ e ∙ chosen _ _ f
 
-        pub term-reference : is_attribute 78 x ≡ false → term values inner x ≡ referred values inner (table_of 0) (meaning_of 0) x x
-        unfolding term table_of meaning_of choose values
+        pub term-reference : is_attribute 78 x ≡ false → term values inner x ≡ referred values inner (table_of Term) (meaning_of Term) x x
+        unfolding term meaning_of choose values
         term-reference f = passed_over _ _ no-opening ∙ passed_over _ _ no_digit ∙ passed_over _ _ e ∙ passed_over _ _ f
 
 -- ---- products and sums
@@ -292,8 +251,8 @@ pub sum_of : (nest : ℕ) (x : List (Lex Cell)) → chained (sums-of nest) x ≡
 unfolding arithmetic sum values
 sum_of nest x = refl
 
-pub deeper-spent : (from : ℕ → List (Lex Cell)) (nest at : ℕ) → nest ≡ 0 → tells from (Wrong 5 at) ≡ deeper values nest (from at)
-unfolding tells deeper
+pub deeper-spent : (from : ℕ → List (Lex Cell)) (nest at : ℕ) → nest ≡ 0 → tells from (Err (record { fault = OverLimit; at = at })) ≡ deeper values nest (from at)
+unfolding tells_as deeper
 deeper-spent from nest at h = rw h
 
 pub deeper-on : (nest : ℕ) (x : List (Lex Cell)) → (nest ≡ 0 → ⊥) → arithmetic values (nest - 1) x ≡ deeper values nest x

@@ -27,8 +27,8 @@ pub numbers-code : (r : Relation) (a b : ℤ) (h : Bool) (o : Order) {t : Truth}
 unfolding cutting values
 numbers-code r a b h o e f g = e ∙ ap cutting.constant (f ∙ ap (holds r) g)
 
-pub bytes-none : (out : Bytes) (t : Text) → (t.over || ltb string_limit t.size) ≡ true → part_of out 0 0 ≡ bytes_held (held_in out t)
-unfolding part_of bytes_held held_in keeping
+pub bytes-none : (out : Bytes) (t : Text) → (t.over || ltb string_limit t.size) ≡ true → [] ≡ bytes_held (held_in out t)
+unfolding bytes_held held_in keeping
 bytes-none out t h = sym (chosen [] (take t.size out) h)
 
 pub bytes-all : (out : Bytes) (t : Text) → (t.over || ltb string_limit t.size) ≡ false → part_of out 0 t.size ≡ bytes_held (held_in out t)

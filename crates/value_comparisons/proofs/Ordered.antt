@@ -1,15 +1,15 @@
 -- Orders byte by byte, relations word by word. Assumes nothing.
-use Prim.Native.Nat.{ℕ, zero, suc, ◌+◌, ◌≤◌, ◌<◌}
+use Prim.Native.Nat.{ℕ, zero, suc}
 use native.Mathlib.Omega.{arith}
 use mathlib.Core.Path.{◌≡◌, refl, ap, sym, ◌∙◌}
-use mathlib.Core.Bool.{Bool, true, false, not}
+use mathlib.Core.Bool.{Bool, true, false, cond, true≢false}
 use mathlib.Core.List.{List, [], ◌∷◌, map}
 use mathlib.Core.Option.{none, some}
-use lib.ListN.{length, take, drop, get_or, drop_of_length-le}
-use lib.Seq.{drop-cons}
+use lib.Dec.{eqb, ltb}
+use lib.ListN.{length, take, drop}
 use lib.IntN.{ℤ}
 use lib.Signed.{lt_z}
-use borrow.Author.Tests.{lt-ltb, le-ltb}
+use borrow.Author.Tests.{ltb-true, ltb-false, eq-eqb, ne_eqb, eqb-true}
 use Rattle.text.specs.Bytes.{Bytes, bytes, same}
 use Rattle.text.specs.Characters.{letter_or_digit}
 use Rattle.text.proofs.Same.{same-is}
@@ -18,130 +18,115 @@ use Rattle.rules.specs.Lexemes.{Lex, byte_of}
 use Rattle.rules.specs.Values.{Order, less, equal, greater, eq, ne, lt, le, gt, ge, byte_order, first_differing, string_order, number_order, holds}
 use Rattle.rules.specs.Grammar.{plain, word_at, is_word, relation_at}
 use Rattle.rules.specs.Evaluate.{Cell}
-use Rattle.rules.proofs.Choices.{chosen, passed_over}
+use Rattle.rules.proofs.Choices.{by, passed_over}
 use Rattle.rules.proofs.Symbols.{same-sym}
 use Rattle.grammar.specs.Tokens.{lex_of, toks_at}
 use Rattle.value_sums.specs.Answers.{lex_by, toks_by}
 use Rattle.value_sums.proofs.Answers.{same-plain}
-use Rattle.value_comparisons.specs.Orders.{relation_of, is_less, is_equal, is_greater}
-use Rattle.value_comparisons.specs.declared.Relation.{Relation as RelationIs}
+use Rattle.std.specs.declared.cmp.Ordering.{Ordering}
+use Rattle.std.specs.declared.cmp.Ordering.TheVariants.{Less, Equal, Greater}
+use Rattle.std.specs.Ordering.{nat_cmp, int_cmp, ordering_then, is_eq, is_ne, is_lt, is_le, is_gt, is_ge}
+use Rattle.std.specs.Cmp.Lexicographic.{slice_cmp}
+use Rattle.value_comparisons.specs.Orders.{order_of, relation_of}
+use Rattle.value_comparisons.specs.declared.Relation.{Relation}
 use Rattle.value_comparisons.specs.declared.Relation.TheVariants.{Eq, Ne, Lt, Le, Gt, Ge}
 
 -- ---- strings
 
+-- one byte of each, and what the others decide
+step : (c d : ℕ) (o : Ordering) (p : Order) → order_of o ≡ p → order_of (ordering_then (nat_cmp c d) o) ≡ elim (byte_order c d) [ less ↦ less | equal ↦ p | greater ↦ greater ]
+unfolding order_of byte_order choose
+step c d o p e = by (ltb c d)
+    (λ h. rw h refl)
+    (λ h. by (ltb d c)
+    (λ k. let more = ltb-true d c k in rw (h, k, ne_eqb c d (λ q. absurd (omega arith))) refl)
+    (λ k. let below = ltb-false c d h in let above = ltb-false d c k in rw (h, k, eq-eqb c d (omega arith)) e))
+
+compared : (s t : Bytes) → length s ≡ length t → order_of (slice_cmp nat_cmp s t) ≡ first_differing s t
+unfolding order_of first_differing
+compared [] [] h = refl
+compared [] (d ∷ t) h = absurd (omega arith)
+compared (c ∷ s) [] h = absurd (omega arith)
+compared (c ∷ s) (d ∷ t) h = step c d _ _ (compared s t (omega arith))
+
 module _ (s t : Bytes) where
-  pub shorter-first : length s < length t → less ≡ string_order s t
+  abbrev sizes : Ordering
+  sizes = nat_cmp (length s) (length t)
+
+  pub other-sized : {o : Ordering} → o ≡ sizes → (o ≡ Equal → ⊥) → order_of o ≡ string_order s t
+  unfolding order_of string_order choose
+  other-sized e n = ap order_of e ∙ by (ltb (length s) (length t))
+      (λ h. rw h refl)
+      (λ h. by (ltb (length t) (length s))
+      (λ k. let more = ltb-true (length t) (length s) k in rw (h, k, ne_eqb (length s) (length t) (λ q. absurd (omega arith))) refl)
+      (λ k. let below = ltb-false (length s) (length t) h in let above = ltb-false (length t) (length s) k in
+      absurd (n (e ∙ both-false h (eq-eqb (length s) (length t) (omega arith))))))
+    where
+      both-false : ltb (length s) (length t) ≡ false → eqb (length s) (length t) ≡ true → sizes ≡ Equal
+      both-false h k = rw (h, k)
+
+  pub same-sized : {o p : Ordering} → o ≡ sizes → o ≡ Equal → p ≡ slice_cmp nat_cmp s t → order_of p ≡ string_order s t
   unfolding string_order
-  shorter-first h = sym (chosen less _ (lt-ltb (length s) (length t) h))
+  same-sized {o} e q f =
+      let size : length s ≡ length t = equal-sizes (length s) (length t) (sym e ∙ q) in
+      ap order_of f ∙ compared s t size ∙ sym (passed_over less _ (level _ _ (sym size)) ∙ passed_over greater _ (level _ _ size))
+    where
+      level : (m n : ℕ) → n ≡ m → ltb m n ≡ false
+      level m n h = by (ltb m n) (λ k. let less-than = ltb-true m n k in absurd (omega arith)) (λ k. k)
 
-  pub longer-first : length t ≤ length s → length t < length s → greater ≡ string_order s t
-  unfolding string_order
-  longer-first n h = sym (passed_over less _ (le-ltb (length s) (length t) n) ∙ chosen greater _ (lt-ltb (length t) (length s) h))
-
-  pub same-sized : length t ≤ length s → length s ≤ length t → string_order s t ≡ first_differing s t
-  unfolding string_order
-  same-sized n m = passed_over less _ (le-ltb (length s) (length t) n) ∙ passed_over greater _ (le-ltb (length t) (length s) m)
-
-  -- both read from place i on
-  module _ (i : ℕ) (hs : i < length s) (ht : i < length t) where
-    -- what one byte of each decides
-    abbrev decided : Order → Order
-    decided o = elim o [ less ↦ less | equal ↦ first_differing (drop (suc i) s) (drop (suc i) t) | greater ↦ greater ]
-
-    here : first_differing (drop i s) (drop i t) ≡ decided (byte_order (get_or s i 0) (get_or t i 0))
-    unfolding first_differing
-    here = λ j. first_differing (drop-cons s i 0 hs j) (drop-cons t i 0 ht j)
-
-    pub less-here : get_or s i 0 < get_or t i 0 → less ≡ first_differing (drop i s) (drop i t)
-    unfolding byte_order
-    less-here h = sym (here ∙ ap decided (chosen less _ (lt-ltb (get_or s i 0) (get_or t i 0) h)))
-
-    pub greater-here : get_or t i 0 ≤ get_or s i 0 → get_or t i 0 < get_or s i 0 → greater ≡ first_differing (drop i s) (drop i t)
-    unfolding byte_order
-    greater-here n h = sym (here ∙ ap decided (passed_over less _ (le-ltb (get_or s i 0) (get_or t i 0) n) ∙ chosen greater _ (lt-ltb (get_or t i 0) (get_or s i 0) h)))
-
-    pub alike-here : get_or t i 0 ≤ get_or s i 0 → get_or s i 0 ≤ get_or t i 0 → first_differing (drop i s) (drop i t) ≡ first_differing (drop (i + 1) s) (drop (i + 1) t)
-    unfolding byte_order
-    alike-here n m =
-        let e : suc i ≡ i + 1 = omega arith in
-        here ∙ ap decided (passed_over less _ (le-ltb (get_or s i 0) (get_or t i 0) n) ∙ passed_over greater _ (le-ltb (get_or t i 0) (get_or s i 0) m))
-        ∙ ap (λ k. first_differing (drop k s) (drop k t)) e
-
-  pub none-differs : (i : ℕ) → length s ≤ i → equal ≡ first_differing (drop i s) (drop i t)
-  unfolding first_differing
-  none-differs i h = rw (drop_of_length-le s h)
+      equal-sizes : (m n : ℕ) → nat_cmp m n ≡ Equal → m ≡ n
+      equal-sizes m n h = by (eqb m n)
+          (λ k. eqb-true m n k)
+          (λ k. absurd (no-equal (ltb m n) (sym h ∙ ap (λ b. cond (ltb m n) Less (cond b Equal Greater)) k)))
+        where
+          no-equal : (b : Bool) → Equal ≡ cond b Less Greater → ⊥
+          no-equal true e = true≢false (ap is_eq e)
+          no-equal false e = true≢false (ap is_eq e)
 
 -- ---- numbers
 
-module _ (a b : ℤ) where
-  pub number-less : lt_z a b ≡ true → less ≡ number_order a b
-  unfolding number_order
-  number-less h = sym (chosen less _ h)
-
-  pub number-greater : lt_z a b ≡ false → lt_z b a ≡ true → greater ≡ number_order a b
-  unfolding number_order
-  number-greater n h = sym (passed_over less _ n ∙ chosen greater _ h)
-
-  pub number-equal : lt_z a b ≡ false → lt_z b a ≡ false → equal ≡ number_order a b
-  unfolding number_order
-  number-equal n m = sym (passed_over less _ n ∙ passed_over greater _ m)
+pub numbers-are : (a b : ℤ) → order_of (int_cmp a b) ≡ number_order a b
+unfolding order_of number_order choose
+numbers-are a b = go (lt_z a b) (lt_z b a)
+  where
+    go : (p q : Bool) → order_of (cond p Less (cond q Greater Equal)) ≡ choose p less (choose q greater equal)
+    go true q = refl
+    go false true = refl
+    go false false = refl
 
 -- ---- what a relation asks of the order
 
-module _ {r : RelationIs} (o : Order) {b : Bool} where
-  pub by-eq : r ≡ Eq → b ≡ is_equal o → b ≡ holds (relation_of r) o
-  unfolding relation_of is_less is_equal is_greater holds
-  by-eq e h = h ∙ at o ∙ sym (ap (λ x. holds (relation_of x) o) e)
-    where
-      at : (o : Order) → is_equal o ≡ holds eq o
-      at less = refl
-      at equal = refl
-      at greater = refl
+abbrev tested : Relation → Ordering → Bool
+tested Eq = is_eq
+tested Ne = is_ne
+tested Lt = is_lt
+tested Le = is_le
+tested Gt = is_gt
+tested Ge = is_ge
 
-  pub by-ne : r ≡ Ne → b ≡ is_equal o → not b ≡ holds (relation_of r) o
-  unfolding relation_of is_less is_equal is_greater holds
-  by-ne e h = ap not h ∙ at o ∙ sym (ap (λ x. holds (relation_of x) o) e)
-    where
-      at : (o : Order) → not (is_equal o) ≡ holds ne o
-      at less = refl
-      at equal = refl
-      at greater = refl
-
-  pub by-lt : r ≡ Lt → b ≡ is_less o → b ≡ holds (relation_of r) o
-  unfolding relation_of is_less is_equal is_greater holds
-  by-lt e h = h ∙ at o ∙ sym (ap (λ x. holds (relation_of x) o) e)
-    where
-      at : (o : Order) → is_less o ≡ holds lt o
-      at less = refl
-      at equal = refl
-      at greater = refl
-
-  pub by_le : r ≡ Le → b ≡ is_greater o → not b ≡ holds (relation_of r) o
-  unfolding relation_of is_less is_equal is_greater holds
-  by_le e h = ap not h ∙ at o ∙ sym (ap (λ x. holds (relation_of x) o) e)
-    where
-      at : (o : Order) → not (is_greater o) ≡ holds le o
-      at less = refl
-      at equal = refl
-      at greater = refl
-
-  pub by-gt : r ≡ Gt → b ≡ is_greater o → b ≡ holds (relation_of r) o
-  unfolding relation_of is_less is_equal is_greater holds
-  by-gt e h = h ∙ at o ∙ sym (ap (λ x. holds (relation_of x) o) e)
-    where
-      at : (o : Order) → is_greater o ≡ holds gt o
-      at less = refl
-      at equal = refl
-      at greater = refl
-
-  pub by-ge : r ≡ Ge → b ≡ is_less o → not b ≡ holds (relation_of r) o
-  unfolding relation_of is_less is_equal is_greater holds
-  by-ge e h = ap not h ∙ at o ∙ sym (ap (λ x. holds (relation_of x) o) e)
-    where
-      at : (o : Order) → not (is_less o) ≡ holds ge o
-      at less = refl
-      at equal = refl
-      at greater = refl
+pub by-relation : {r : Relation} (x : Relation) (o : Ordering) → r ≡ x → tested x o ≡ holds (relation_of r) (order_of o)
+unfolding relation_of order_of holds
+by-relation x o e = at x o ∙ sym (ap (λ r. holds (relation_of r) (order_of o)) e)
+  where
+    at : (x : Relation) (o : Ordering) → tested x o ≡ holds (relation_of x) (order_of o)
+    at Eq Less = refl
+    at Eq Equal = refl
+    at Eq Greater = refl
+    at Ne Less = refl
+    at Ne Equal = refl
+    at Ne Greater = refl
+    at Lt Less = refl
+    at Lt Equal = refl
+    at Lt Greater = refl
+    at Le Less = refl
+    at Le Equal = refl
+    at Le Greater = refl
+    at Gt Less = refl
+    at Gt Equal = refl
+    at Gt Greater = refl
+    at Ge Less = refl
+    at Ge Equal = refl
+    at Ge Greater = refl
 
 -- ---- relations by their words
 

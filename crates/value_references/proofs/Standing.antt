@@ -1,8 +1,10 @@
 -- What a field's bytes stand for is where the code reads it: the workspace by kinds. Assumes nothing.
 use Prim.Native.Nat.{ℕ, zero, suc, pred, ◌+◌, ◌*◌, ◌-◌, ◌≤◌, ◌<◌}
 use native.Mathlib.Omega.{arith}
+use native.Mathlib.Numerals.{add-one}
 use mathlib.Core.Path.{◌≡◌, refl, ap, sym, ◌∙◌}
-use mathlib.Core.Bool.{true, false, true≢false}
+use mathlib.Core.Bool.{Bool, true, false, true≢false}
+use mathlib.Core.Logic.{◌⊎◌, inl, inr}
 use mathlib.Core.List.{List, [], ◌∷◌, map}
 use lib.Dec.{eqb, ltb}
 use lib.ListN.{length, get_or, take, drop, drop_of_length-le, get_or-eq_default}
@@ -19,6 +21,14 @@ use Rattle.rules.proofs.Choices.{by, chosen, passed_over, either}
 use Rattle.deck.specs.Coders.{set_of}
 use Rattle.grammar.specs.Tokens.{kind_of}
 use Rattle.grammar.specs.Kinds.{number_of}
+use Rattle.std.specs.Prelude.{Some, None}
+use Rattle.std.specs.Prelude.{Option as Maybe}
+use Rattle.kinds.specs.declared.Set.{Set as Kept-set}
+use Rattle.kinds.specs.declared.Set.TheVariants.{A, B, C}
+use Rattle.kinds.specs.declared.Kind.{Kind as Kept}
+use Rattle.kinds.specs.declared.Kind.TheVariants.{Parameter, Symbol, List as Listed, Index, Section, Unknown}
+use Rattle.kinds.specs.Kinds.{kind_for, kind_of as kind_meant, set_of as set_meant}
+use Rattle.kinds.proofs.Back.{kind-back}
 use Rattle.deck_reading.specs.Reading.{or_first, set_at, kinds_at}
 use Rattle.deck_reading.specs.Reading.{run_at as deck_run}
 use Rattle.deck_reading.specs.Heads.{globals_place}
@@ -46,89 +56,67 @@ set-small set_a = omega arith
 set-small set_b = omega arith
 set-small set_c = omega arith
 
--- a kind is known by its number
-kinded : Kind → ℕ → Kind
-kinded k zero = parameter
-kinded k (suc zero) = symbol set_a
-kinded k (suc (suc zero)) = symbol set_b
-kinded k (suc (suc (suc zero))) = symbol set_c
-kinded k (suc (suc (suc (suc zero)))) = unknown
-kinded k (suc (suc (suc (suc (suc zero))))) = syslist
-kinded k (suc (suc (suc (suc (suc (suc zero)))))) = sysndx
-kinded k (suc (suc (suc (suc (suc (suc (suc n))))))) = sysect
+-- the code's word for a kind says which it is
+module _ {k : Kind} {n : Kept} (e : n ≡ kind_for k) where
+  pub is-kind : {x : Kept} → n ≡ x → k ≡ kind_meant x
+  is-kind h = sym (kind-back k) ∙ ap kind_meant (sym e ∙ h)
 
-kinded-is : (k : Kind) → kinded k (number_of k) ≡ k
-unfolding number_of kinded
-kinded-is parameter = refl
-kinded-is (symbol set_a) = refl
-kinded-is (symbol set_b) = refl
-kinded-is (symbol set_c) = refl
-kinded-is unknown = refl
-kinded-is syslist = refl
-kinded-is sysndx = refl
-kinded-is sysect = refl
-
-module _ {k : Kind} {n : ℕ} (e : n ≡ number_of k) where
-  by_number : (m : ℕ) → n ≡ m → k ≡ kinded k m
-  by_number m h = sym (kinded-is k) ∙ ap (kinded k) (sym e ∙ h)
-
-  pub is-parameter : n ≡ 0 → k ≡ parameter
-  unfolding kinded
-  is-parameter h = by_number 0 h
-
-  pub is_number : n ≡ 1 → k ≡ symbol set_a
-  unfolding kinded
-  is_number h = by_number 1 h
-
-  pub is-string : n ≡ 3 → k ≡ symbol set_c
-  unfolding kinded
-  is-string h = by_number 3 h
-
-  pub is-list : n ≡ 5 → k ≡ syslist
-  unfolding kinded
-  is-list h = by_number 5 h
-
-  pub is-index : n ≡ 6 → k ≡ sysndx
-  unfolding kinded
-  is-index h = by_number 6 h
-
-  -- a placed kind that is no other is the section
-  pub is-section : is_placed k ≡ true → (n ≡ 0 → ⊥) → (n ≡ 3 → ⊥) → (n ≡ 5 → ⊥) → k ≡ sysect
-  unfolding is_placed number_of
-  is-section p a b c = go k p (λ z. a (e ∙ z)) (λ z. b (e ∙ z)) (λ z. c (e ∙ z))
+  pub is-string : {x : Kept-set} → is_placed k ≡ true → n ≡ Symbol x → k ≡ symbol set_c
+  unfolding is_placed
+  is-string {x} p h = let it = is-kind h in go x it (sym (ap is_placed it) ∙ p)
     where
-      go : (k : Kind) → is_placed k ≡ true → (number_of k ≡ 0 → ⊥) → (number_of k ≡ 3 → ⊥) → (number_of k ≡ 5 → ⊥) → k ≡ sysect
-      go parameter p a b c = absurd (a refl)
-      go (symbol set_a) p a b c = absurd (true≢false (sym p))
-      go (symbol set_b) p a b c = absurd (true≢false (sym p))
-      go (symbol set_c) p a b c = absurd (b refl)
-      go syslist p a b c = absurd (c refl)
-      go sysndx p a b c = absurd (true≢false (sym p))
-      go sysect p a b c = refl
-      go unknown p a b c = absurd (true≢false (sym p))
+      go : (x : Kept-set) → k ≡ symbol (set_meant x) → is_placed (symbol (set_meant x)) ≡ true → k ≡ symbol set_c
+      go A it p = absurd (true≢false (sym p))
+      go B it p = absurd (true≢false (sym p))
+      go C it p = it
 
-set_back : (s : Set) → number_of (kind_of (number_of (symbol s))) ≡ number_of (symbol s)
-unfolding number_of kind_of choose
-set_back set_a = refl
-set_back set_b = refl
-set_back set_c = refl
+-- a kind that is not placed
+pub unplaced : (k : Kind) {n x : Kept} {P : Type 0} → n ≡ kind_for k → n ≡ x → is_placed k ≡ true → is_placed (kind_meant x) ≡ false → P
+unplaced k e h p f = absurd (true≢false (sym p ∙ ap is_placed (is-kind e h) ∙ f))
 
-no-back : number_of (kind_of 4) ≡ 4
-unfolding number_of kind_of choose
-no-back = refl
+-- the kinds of which a reference may take an entry
+is_divided : Kept → Bool
+is_divided Parameter = true
+is_divided (Symbol x) = false
+is_divided Listed = true
+is_divided Index = false
+is_divided Section = false
+is_divided Unknown = false
 
-first_back : number_of (kind_of 0) ≡ 0
-unfolding number_of kind_of choose
-first_back = refl
+-- one of the others is neither of these
+module _ {n : Kept} (h : ((x : Kept-set) × n ≡ Symbol x) ⊎ (n ≡ Index ⊎ (n ≡ Section ⊎ n ≡ Unknown))) where
+  undivided : is_divided n ≡ false
+  unfolding is_divided
+  undivided = elim h [
+    | inl w ↦ ap is_divided w.1
+    | inr u ↦ elim u [ inl e ↦ ap is_divided e | inr v ↦ elim v [ inl e ↦ ap is_divided e | inr e ↦ ap is_divided e ] ]
+  ]
 
-sets-back : (ks : List Set) (q : ℕ) → number_of (kind_of (get_or (map (λ k. number_of (symbol k)) ks) q 4)) ≡ get_or (map (λ k. number_of (symbol k)) ks) q 4
-sets-back [] q = no-back
-sets-back (k ∷ ks) zero = set_back k
-sets-back (k ∷ ks) (suc q) = sets-back ks q
+  pub not-parameter : n ≡ Parameter → ⊥
+  unfolding is_divided
+  not-parameter z = true≢false (sym (ap is_divided z) ∙ undivided)
 
-set_there : (deck : Bytes) (at q : ℕ) → number_of (kind_of (set_kind deck at q)) ≡ set_kind deck at q
-unfolding set_kind
-set_there deck at q = sets-back (kinds_at deck at) q
+  pub not-list : n ≡ Listed → ⊥
+  unfolding is_divided
+  not-list z = true≢false (sym (ap is_divided z) ∙ undivided)
+
+-- the kinds of a deck's slots
+module _ (deck : Bytes) (at q : ℕ) where
+  pub unknown-set : 4 ≡ set_kind deck at q → Unknown ≡ kind_for (kind_of (set_kind deck at q))
+  unfolding kind_of choose
+  unknown-set e = ap (λ n. kind_for (kind_of n)) e
+
+  pub set-a-is : 1 ≡ set_kind deck at q → Symbol A ≡ kind_for (kind_of (set_kind deck at q))
+  unfolding kind_of choose
+  set-a-is e = ap (λ n. kind_for (kind_of n)) e
+
+  pub set-b-is : 2 ≡ set_kind deck at q → Symbol B ≡ kind_for (kind_of (set_kind deck at q))
+  unfolding kind_of choose
+  set-b-is e = ap (λ n. kind_for (kind_of n)) e
+
+  pub set-c-is : 3 ≡ set_kind deck at q → Symbol C ≡ kind_for (kind_of (set_kind deck at q))
+  unfolding kind_of choose
+  set-c-is e = ap (λ n. kind_for (kind_of n)) e
 
 pub set-kind-none : (deck kinds : Bytes) (at q : ℕ) → kinds ≡ deck_run deck at → length kinds ≤ q → 4 ≡ set_kind deck at q
 unfolding set_kind kinds_at
@@ -168,10 +156,13 @@ module _ (deck : Bytes) (f : Frame) (b place : ℕ) (is : place ≡ b) where
   unfolding kind_in
   kind-shared h = let l : 192 ≤ b = omega (arith, is) in ap (λ i. set_kind deck globals_place (i - 192)) is ∙ sym (passed_over _ _ (le-ltb b 192 l))
 
-  pub kind-parameter : place < 192 → place - 128 < f.params → 0 ≡ kind_in deck f b
-  unfolding kind_in
-  kind-parameter h k = let l : b < 192 = omega (arith, is) in let m : b - 128 < f.params = omega (arith, is) in
-      sym (chosen _ _ (lt-ltb b 192 l) ∙ chosen _ _ (lt-ltb (b - 128) f.params m))
+  pub kind-parameter : place < 192 → place - 128 < f.params → Parameter ≡ kind_for (kind_of (kind_in deck f b))
+  unfolding kind_in kind_of choose
+  kind-parameter h k = ap (λ n. kind_for (kind_of n)) (parameter-first h k)
+    where
+      parameter-first : place < 192 → place - 128 < f.params → 0 ≡ kind_in deck f b
+      parameter-first h k = let l : b < 192 = omega (arith, is) in let m : b - 128 < f.params = omega (arith, is) in
+          sym (chosen _ _ (lt-ltb b 192 l) ∙ chosen _ _ (lt-ltb (b - 128) f.params m))
 
   pub kind-local : place < 192 → f.params ≤ place - 128 → set_kind deck f.locals (place - 128 - f.params) ≡ kind_in deck f b
   unfolding kind_in
@@ -181,11 +172,11 @@ module _ (deck : Bytes) (f : Frame) (b place : ℕ) (is : place ≡ b) where
 module _ (deck w : Bytes) (f : Frame) (held : ℕ → Cell) (h : Holding deck w f held) where
   -- ---- the grammar's table of kinds is that of the cells
 
-  told : Lex Cell → ℕ
-  told (byte c) = 255
-  told mark = 255
-  told (ref c) = number_of c.kind
-  told lone = 255
+  told : Lex Cell → Maybe Kept
+  told (byte c) = None
+  told mark = None
+  told (ref c) = Some (kind_for c.kind)
+  told lone = None
 
   first : (y : Lex Cell) (x : List (Lex Cell)) → kind_by (y ∷ x) ≡ told y
   unfolding kind_by told
@@ -201,16 +192,6 @@ module _ (deck w : Bytes) (f : Frame) (held : ℕ → Cell) (h : Holding deck w 
       last : eqb b 224 ≡ false → eqb b 225 ≡ false → b ≡ 226
       last e f = let x = eqb-false b 224 e in let y = eqb-false b 225 f in omega arith
 
-  -- a kind of a slot has a number below 5
-  kind-there : (b : ℕ) → number_of (kind_of (kind_in deck f b)) ≡ kind_in deck f b
-  unfolding kind_in
-  kind-there b = by (ltb b 192)
-      (λ s. both (chosen _ _ s) (by (ltb (b - 128) f.params) (λ t. both (chosen 0 (set_kind deck f.locals (b - 128 - f.params)) t) first_back) (λ t. both (passed_over 0 (set_kind deck f.locals (b - 128 - f.params)) t) (set_there deck f.locals (b - 128 - f.params)))))
-      (λ s. both (passed_over _ _ s) (set_there deck globals_place (b - 192)))
-    where
-      both : {m n : ℕ} → m ≡ n → number_of (kind_of n) ≡ n → number_of (kind_of m) ≡ m
-      both e k = ap (λ i. number_of (kind_of i)) e ∙ k ∙ sym e
-
   module _ (code : Bytes) (at b : ℕ) (is : b ≡ get_or code at 0) where
     by_kind : kind_by (toks_by held code at) ≡ told (lex_by held b)
     unfolding toks_by told kind_by lex_by choose
@@ -221,7 +202,7 @@ module _ (deck w : Bytes) (f : Frame) (held : ℕ → Cell) (h : Holding deck w 
         nothing : kind_by [] ≡ told (lex_by held 0)
         nothing = refl
 
-    pub kind-low : b < 128 → 255 ≡ kind_by (toks_by held code at)
+    pub kind-low : b < 128 → None ≡ kind_by (toks_by held code at)
     unfolding lex_by told choose
     kind-low l = sym (by_kind ∙ by (ltb b 127) (λ e. rw e) λ e. let high = ltb-false b 127 e in let m : b ≡ 127 = omega arith in rw (e, eq-eqb b 127 m))
 
@@ -229,16 +210,27 @@ module _ (deck w : Bytes) (f : Frame) (held : ℕ → Cell) (h : Holding deck w 
     unfolding lex_by choose
     past-text low = let l : 127 ≤ b = omega arith in let n : b ≡ 127 → ⊥ = λ e. omega arith in rw (le-ltb b 127 l, ne_eqb b 127 n)
 
-    pub kind-slot : 128 ≤ b → b < 224 → kind_in deck f b ≡ kind_by (toks_by held code at)
+    shown-kind : 128 ≤ b → b < 227 → Some (kind_for (held b).kind) ≡ kind_by (toks_by held code at)
     unfolding told
-    kind-slot low less = let l : b < 227 = omega arith in
-        sym (kind-there b) ∙ ap number_of (sym (h.kinds b low less)) ∙ sym (by_kind ∙ ap told (past-text low ∙ chosen _ _ (lt-ltb b 227 l)))
+    shown-kind low less = sym (by_kind ∙ ap told (past-text low ∙ chosen _ _ (lt-ltb b 227 less)))
 
-    pub kind-system : 224 ≤ b → b < 227 → b - 219 ≡ kind_by (toks_by held code at)
-    unfolding told
-    kind-system low less = let l : 128 ≤ b = omega arith in sym (by_kind ∙ ap told (past-text l ∙ chosen _ _ (lt-ltb b 227 less)) ∙ system b low less)
+    pub kind-slot : 128 ≤ b → b < 224 → Some (kind_for (kind_of (kind_in deck f b))) ≡ kind_by (toks_by held code at)
+    kind-slot low less = ap (λ k. Some (kind_for k)) (sym (h.kinds b low less)) ∙ shown-kind low (omega arith)
 
-    pub kind-none : 227 ≤ b → 255 ≡ kind_by (toks_by held code at)
+    -- the symbols of the system
+    system-kind : (n : ℕ) → 224 ≤ n → n < 227 → b ≡ n → {k : Kind} → (held n).kind ≡ k → Some (kind_for k) ≡ kind_by (toks_by held code at)
+    system-kind n low high e k = ap (λ k. Some (kind_for k)) (sym k ∙ ap (λ i. (held i).kind) (sym e)) ∙ shown-kind (omega arith) (omega arith)
+
+    pub kind-list : b ≡ 224 → Some Listed ≡ kind_by (toks_by held code at)
+    kind-list e = system-kind 224 (omega arith) (omega arith) e h.list-kind
+
+    pub kind-index : b ≡ 225 → Some Index ≡ kind_by (toks_by held code at)
+    kind-index e = system-kind 225 (omega arith) (omega arith) e h.number-kind
+
+    pub kind-section : b ≡ 226 → Some Section ≡ kind_by (toks_by held code at)
+    kind-section e = system-kind 226 (omega arith) (omega arith) e h.section-kind
+
+    pub kind-none : 227 ≤ b → None ≡ kind_by (toks_by held code at)
     unfolding told
     kind-none low = let l : 128 ≤ b = omega arith in sym (by_kind ∙ ap told (past-text l ∙ passed_over _ _ (le-ltb b 227 low)))
 
@@ -323,8 +315,8 @@ module _ (c : Cell) (n : ℕ) where
 
 -- ---- runs, one behind the other
 
-pub listed-past : (w : Bytes) (at count n : ℕ) → count ≤ n → part_of w 0 0 ≡ get_or (runs_at w at count) n []
-unfolding runs_at part_of
+pub listed-past : (w : Bytes) (at count n : ℕ) → count ≤ n → [] ≡ get_or (runs_at w at count) n []
+unfolding runs_at
 listed-past w at zero n h = refl
 listed-past w at (suc count) zero h = absurd (omega arith)
 listed-past w at (suc count) (suc n) h = listed-past w (at + 1 + get_or w at 0) count n (omega arith)
@@ -340,10 +332,17 @@ unfolding runs_at
 runs-long w at zero = refl
 runs-long w at (suc count) = ap suc (runs-long w (at + 1 + get_or w at 0) count)
 
-pub run-next : (w : Bytes) (at n : ℕ) → 0 < n → run_place w at n ≡ run_place w (at + 1 + get_or w at 0) (n - 1)
+run-step : (w : Bytes) (at n : ℕ) → run_place w at (suc n) ≡ run_place w at n + 1 + get_or w (run_place w at n) 0
 unfolding run_place
-run-next w at zero h = absurd (omega arith)
-run-next w at (suc n) h = let z : suc n - 1 ≡ n = omega arith in ap (run_place w (at + 1 + get_or w at 0)) (sym z)
+run-step w at zero = refl
+run-step w at (suc n) = run-step w (at + 1 + get_or w at 0) n
+
+pub run-next : (w : Bytes) (at n : ℕ) → run_place w at (n + 1) ≡ run_place w at n + 1 + get_or w (run_place w at n) 0
+run-next w at n = ap (run_place w at) (add-one n) ∙ run-step w at n
+
+pub run-first : (w : Bytes) (at : ℕ) → at ≡ run_place w at 0
+unfolding run_place
+run-first w at = refl
 
 -- ---- sizes
 
@@ -361,10 +360,6 @@ part_small w at n = go n (drop at w)
 pub run_is : (w : Bytes) (at n : ℕ) → n ≡ get_or w at 0 → part_of w (at + 1) n ≡ run_at w at
 unfolding run_at
 run_is w at n e = ap (part_of w (at + 1)) e
-
-pub run_none : (w : Bytes) (at n : ℕ) → n ≡ 0 → at ≡ run_place w at n
-unfolding run_place
-run_none w at n e = sym (ap (run_place w at) e)
 
 pub level-part : (w : Bytes) (depth at : ℕ) (v : Bytes) → at ≡ level_at depth → v ≡ part_of w at 224 → v ≡ level_in w depth
 unfolding level_in
@@ -384,10 +379,6 @@ module _ (f : Frame) (b : ℕ) where
   pub shared-cell : 192 ≤ b → b - 192 ≡ cell_number f b
   unfolding cell_number
   shared-cell h = sym (passed_over _ _ (le-ltb b 192 h))
-
-  pub own_first : b < 192 → b - 128 ≤ f.params → 16 * f.depth ≡ cell_number f b
-  unfolding cell_number
-  own_first h k = let z : 16 * f.depth ≡ 16 * f.depth + (b - 128 - f.params) = omega arith in z ∙ sym (chosen _ _ (lt-ltb b 192 h))
 
   pub own-cell : b < 192 → 16 * f.depth + (b - 128 - f.params) ≡ cell_number f b
   unfolding cell_number
@@ -436,9 +427,6 @@ pub set-number : (deck w : Bytes) (f : Frame) (held : ℕ → Cell) (h : Holding
     → {cell : ℕ} {z : ℤ} → cell ≡ cell_number f b → z ≡ integer_in (cell_of w cell) → (held b).value ≡ number z
 unfolding value_in
 set-number deck w f held h b low high k e r = holds-set deck w f held h b low high set_a k ∙ ap (λ i. number (integer_in (cell_of w i))) (sym e) ∙ ap number (sym r)
-
-pub less_none : {n : ℕ} → n ≡ 0 → 0 ≡ pred n
-less_none e = sym (ap pred e)
 
 pub less_one : {m n : ℕ} → m ≡ n → m - 1 ≡ pred n
 less_one {m} {n} e = ap (λ k. k - 1) e ∙ go n

@@ -1,28 +1,30 @@
 -- What the answers of string rules say.
-use Rattle.std.specs.Prelude.{ℕ, List, [], ◌∷◌, length, ℤ}
+use Rattle.std.specs.Prelude.{ℕ, List, [], ◌∷◌, ℤ, Result, Some, None}
+use Rattle.std.specs.Prelude.{Option as Maybe}
 use Rattle.std.proofs.Math.Option.{Option, none, some}
 use Rattle.text.specs.Bytes.{Bytes}
 use Rattle.rules.specs.Choice.{choose}
 use Rattle.rules.specs.Lexemes.{Lex}
 use Rattle.rules.specs.Fields.{is_empty}
-use Rattle.rules.specs.Grammar.{Reference, Got, got, refused, given, broken, after_t}
+use Rattle.rules.specs.Grammar.{Reference, Got, given, broken, after_t}
 use Rattle.rules.specs.Evaluate.{Cell, Chars, chars, type_chars}
-use Rattle.value_strings.specs.declared.Known.{Known}
-use Rattle.value_strings.specs.declared.Known.TheVariants.{Is, Nothing}
-use Rattle.value_strings.specs.declared.Typed.{Typed}
-use Rattle.value_strings.specs.declared.Typed.TheVariants.{As, Refused}
+use Rattle.spans.specs.Spans.{part_of}
+use Rattle.value_sums.specs.declared.Read.{Read}
+use Rattle.value_sums.specs.declared.Refused.{Refused}
+use Rattle.value_sums.specs.Answers.{tells_as}
+use Rattle.value_strings.specs.declared.Part.{Part}
 
-unfoldable pub known_by : Known → Option Bytes
-known_by (Is b) = some (b ∷ [])
-known_by Nothing = none
+-- the bytes of a part of a string, if it has that part
+unfoldable pub part_in : Bytes → Maybe Part → Option Bytes
+part_in s (Some p) = some (part_of s p.at p.size)
+part_in s None = none
 
-unfoldable pub chars_by : Known → Option Chars
-chars_by (Is b) = some (chars (b ∷ []))
-chars_by Nothing = none
+unfoldable pub known_by : Maybe ℕ → Option Bytes
+known_by (Some b) = some (b ∷ [])
+known_by None = none
 
-unfoldable pub tells_type : (ℕ → List (Lex Cell)) → Typed → Got Chars Cell
-tells_type from (As b n) = got (chars (b ∷ [])) (from n)
-tells_type from (Refused e n) = refused e (length (from n))
+abbrev pub tells_type : (ℕ → List (Lex Cell)) → Result (Read ℕ) Refused → Got Chars Cell
+tells_type = tells_as (λ b. chars (b ∷ []))
 
 -- a reference that was read, as its type where it may stand after T'
 unfoldable pub typed_by : List (Lex Cell) → Reference Cell ℤ → List (Lex Cell) → Got Chars Cell

@@ -14,7 +14,7 @@ use mir.Syntax.{w32, w64}
 use mir.Val.{SFits, Fits}
 use mir.Facts.{Fits-nat_abs}
 use lib.ListN.{length, get_or, take, drop, drop_of_length-le, length-append, length-drop}
-use lib.Seq.{drop-cons, take-suc, get_or-drop, append_snoc, get_or-append_seam, take-length}
+use lib.Seq.{drop-cons, take-suc, get_or-drop, append_snoc, get_or-append_seam}
 use borrow.Author.Tests.{ltb-true, not-false, eqb-true, eqb-false, eq-eqb, ne_eqb}
 use Rattle.text.specs.Bytes.{Bytes, bytes}
 use Rattle.rules.specs.Choice.{choose, on_first}
@@ -26,13 +26,13 @@ use Rattle.fields.specs.Seen.{before_of, inside_of, seen_after}
 use Rattle.fields.proofs.Scan.{before-after, inside-after}
 use Rattle.spans.specs.Spans.{part_of}
 use Rattle.value_sublists.specs.declared.Passed.{Passed}
-use Rattle.value_sublists.specs.declared.Cut.{Cut}
-use Rattle.value_sublists.specs.declared.Cut.TheVariants.{Entries, Whole}
-use Rattle.value_sublists.specs.declared.Part.TheVariants.{In, Nothing as NoPart}
-use Rattle.value_sums.specs.declared.Whole.{Whole as Number}
-use Rattle.value_sums.specs.declared.Whole.TheVariants.{Some, Nothing}
+use Rattle.std.specs.Prelude.{Some, None}
+use Rattle.std.specs.Prelude.{Option as Maybe}
+use Rattle.std.specs.Borrow.{Bor}
 use Rattle.value_sums.specs.Answers.{option_of}
-use Rattle.value_sublists.specs.Entries.{edges, ended, passed_by, Entry, cut_in, cut_by, part_in}
+use Rattle.value_sublists.specs.declared.Entries.{Entries}
+use Rattle.value_sublists.specs.Entries.{edges, ended, passed_by, Entry, cut_of, cut_by}
+use Rattle.value_sublists.specs.Entries.{part_of as part_found}
 
 -- ---- one byte
 
@@ -187,7 +187,29 @@ pub record Scanning (l : Bytes) (n i : ℕ) (seen : State) (p : Passed) : Type 0
 
 -- the answer behind the last entry
 abbrev pub closed_at : Bytes → Passed → Option Entry
-closed_at l q = cut_in l (Entries q.count q.at q.size)
+closed_at l q = some (record { count = q.count; wanted = part_of l q.at q.size })
+
+pub cut-none : cut_of None ≡ none
+unfolding cut_of
+cut-none = refl
+
+pub cut-some : (l : Bytes) (p : Passed) (w : Bor Bytes) → w.now ≡ part_of l p.at p.size → cut_of (Some (record { count = p.count; wanted = w })) ≡ closed_at l p
+unfolding cut_of
+cut-some l p w e = ap (λ b. some (record { count = p.count; wanted = b })) e
+
+pub part-within : (s : Bytes) (at n : ℕ) → length (part_of s at n) ≤ length s
+unfolding part_of
+part-within s at n = go n at s
+  where
+    taken : (n : ℕ) (s : Bytes) → length (take n s) ≤ length s
+    taken zero s = omega arith
+    taken (suc n) [] = omega arith
+    taken (suc n) (b ∷ s) = let less = taken n s in omega arith
+
+    go : (n at : ℕ) (s : Bytes) → length (take n (drop at s)) ≤ length s
+    go n zero s = taken n s
+    go n (suc at) [] = taken n []
+    go n (suc at) (b ∷ s) = let less = go n at s in omega arith
 
 -- the entry that ends at place i is `now`
 module _ (l : Bytes) (n i : ℕ) (done : List Bytes) (p : Passed) (counted : length done ≡ p.count) (found : get_or done n [] ≡ part_of l p.at p.size) where
@@ -226,14 +248,14 @@ module _ (l : Bytes) (n i : ℕ) (seen : State) (p : Passed) (inv : Scanning l n
 
   -- the parenthesis that closes the operand, and one behind which more stands
   pub scan-last : edges seen b closing ≡ true → length l ≤ i + 1 → closed_at l (passed_by n i true p) ≡ cut_by n (entries_of l)
-  unfolding passed_by choose cut_in cut_by joined_to
+  unfolding passed_by choose cut_by joined_to
   scan-last e g =
       let now = part_of l p.start (i - p.start) in
       let all : entries_of l ≡ some (inv.done ++ (now ∷ [])) = inv.whole ∙ ap (joined_to inv.done now) (divided-last l i seen inside e g) ∙ ap (λ r. some (inv.done ++ (r ∷ []))) (append-nil now) in
       sym (ap (cut_by n) all ∙ (λ j. some (record { count = end-counted l n i inv.done p inv.counted inv.found j; wanted = end-found l n i inv.done p inv.counted inv.found j })))
 
-  pub scan-not : edges seen b closing ≡ true → i + 1 < length l → cut_in l Whole ≡ cut_by n (entries_of l)
-  unfolding cut_in cut_by joined_to
+  pub scan-not : edges seen b closing ≡ true → i + 1 < length l → none ≡ cut_by n (entries_of l)
+  unfolding cut_by joined_to
   scan-not e g = sym (ap (cut_by n) (inv.whole ∙ ap (joined_to inv.done _) (divided-not l i seen inside e g)))
 
   -- one byte further
@@ -274,8 +296,8 @@ module _ (l : Bytes) (n i : ℕ) (seen : State) (p : Passed) (inv : Scanning l n
       subst (λ q. Scanning l n (i + 1) seen'' q) (sym m) (subst (λ t. Scanning l n (i + 1) t (passed_by n i d p)) (sym same) (scan-on e d (sym f) (subst (λ t. t.depth ≤ i + 1) same few)))
 
 -- an end before the parentheses are closed
-pub scan-ends : (l : Bytes) (n i : ℕ) (seen : State) (p : Passed) → Scanning l n i seen p → length l ≤ i → cut_in l Whole ≡ cut_by n (entries_of l)
-unfolding cut_in cut_by joined_to
+pub scan-ends : (l : Bytes) (n i : ℕ) (seen : State) (p : Passed) → Scanning l n i seen p → length l ≤ i → none ≡ cut_by n (entries_of l)
+unfolding cut_by joined_to
 scan-ends l n i seen p inv h = sym (ap (cut_by n) (inv.whole ∙ ap (joined_to inv.done _) (divided-end l i seen h)))
 
 -- ---- the start
@@ -309,8 +331,8 @@ scan-starts (c ∷ l) n h = subst (λ c. Scanning (c ∷ l) n 1 first_seen none_
   shallow = le_refl 1;
 })
 
-pub not_opened : (l : Bytes) (n : ℕ) → (get_or l 0 0 ≡ opening → ⊥) → cut_in l Whole ≡ cut_by n (entries_of l)
-unfolding cut_in cut_by entries_of
+pub not_opened : (l : Bytes) (n : ℕ) → (get_or l 0 0 ≡ opening → ⊥) → none ≡ cut_by n (entries_of l)
+unfolding cut_by entries_of
 not_opened [] n h = refl
 not_opened (c ∷ l) n h = sym (ap (cut_by n) (passed_over _ _ (ne_eqb c opening h)))
 
@@ -353,18 +375,21 @@ unfolding number_of_entries
 count-empty [] h = refl
 count-empty (c ∷ l) h = absurd (omega arith)
 
-by_answer : (l l' : Bytes) (r : Cut) → (length l' ≡ 0 → ⊥) → cut_in l r ≡ cut_by 0 (entries_of l') → count_of (cut_in l r) ≡ number_of_entries l'
-by_answer l [] r n e = absurd (n refl)
-by_answer l (b ∷ l') r n e = ap count_of e ∙ counted-by b l'
+counted : (l : Bytes) (o : Option Entry) → (length l ≡ 0 → ⊥) → o ≡ cut_by 0 (entries_of l) → count_of o ≡ number_of_entries l
+counted [] o n e = absurd (n refl)
+counted (c ∷ l) o n e = ap count_of e ∙ counted-by c l
 
-module _ (l : Bytes) (r : Cut) (h : cut_in l r ≡ cut_by 0 (entries_of l)) (some_byte : length l ≡ 0 → ⊥) where
-  pub count-entries : {k at n : ℕ} → r ≡ Entries k at n → k ≡ number_of_entries l
-  unfolding count_of cut_in
-  count-entries e = sym (ap (λ r. count_of (cut_in l r)) e) ∙ by_answer l l r some_byte h
+module _ (l : Bytes) (r : Maybe Entries) (h : cut_of r ≡ cut_by 0 (entries_of l)) (some_byte : length l ≡ 0 → ⊥) where
+  by_answer : count_of (cut_of r) ≡ number_of_entries l
+  by_answer = counted l (cut_of r) some_byte h
 
-  pub count-whole : r ≡ Whole → 1 ≡ number_of_entries l
-  unfolding count_of cut_in
-  count-whole e = sym (ap (λ r. count_of (cut_in l r)) e) ∙ by_answer l l r some_byte h
+  pub count-entries : {e : Entries} → r ≡ Some e → e.count ≡ number_of_entries l
+  unfolding count_of cut_of
+  count-entries e = sym (ap (λ r. count_of (cut_of r)) e) ∙ by_answer
+
+  pub count-whole : r ≡ None → 1 ≡ number_of_entries l
+  unfolding count_of cut_of
+  count-whole e = sym (ap (λ r. count_of (cut_of r)) e) ∙ by_answer
 
 -- the wanted entry; of an operand that is no sublist, the first is all of it
 wanted_of : Bytes → ℕ → Option Entry → Bytes
@@ -379,30 +404,36 @@ wanted_by l n = go (entries_of l)
     go none = refl
     go (some entries) = refl
 
-module _ (l : Bytes) (n : ℕ) (r : Cut) (h : cut_in l r ≡ cut_by n (entries_of l)) where
-  pub entry-some : {k at size : ℕ} → r ≡ Entries k at size → part_in l (In at size) ≡ entry l (pos (suc n))
-  unfolding part_in cut_in wanted_of
-  entry-some e = sym (ap (λ r. some (wanted_of l n (cut_in l r))) e) ∙ ap (λ o. some (wanted_of l n o)) h ∙ wanted_by l n
+module _ (l : Bytes) (n : ℕ) (r : Maybe Entries) (h : cut_of r ≡ cut_by n (entries_of l)) where
+  pub entry-some : {e : Entries} → r ≡ Some e → part_found (Some e.wanted) ≡ entry l (pos (suc n))
+  unfolding part_found cut_of wanted_of
+  entry-some e = sym (ap (λ r. some (wanted_of l n (cut_of r))) e) ∙ ap (λ o. some (wanted_of l n o)) h ∙ wanted_by l n
 
-  none-cut : r ≡ Whole → some (get_or (l ∷ []) n []) ≡ entry l (pos (suc n))
-  unfolding cut_in wanted_of
-  none-cut e = sym (ap (λ r. some (wanted_of l n (cut_in l r))) e) ∙ ap (λ o. some (wanted_of l n o)) h ∙ wanted_by l n
+  none-cut : r ≡ None → some (get_or (l ∷ []) n []) ≡ entry l (pos (suc n))
+  unfolding cut_of wanted_of
+  none-cut e = sym (ap (λ r. some (wanted_of l n (cut_of r))) e) ∙ ap (λ o. some (wanted_of l n o)) h ∙ wanted_by l n
 
-  pub entry-all : r ≡ Whole → n ≡ 0 → part_in l (In 0 (length l)) ≡ entry l (pos (suc n))
-  unfolding part_in part_of
-  entry-all e z = ap some (take-length l ∙ sym (ap (λ n. get_or (l ∷ []) n []) z)) ∙ none-cut e
+  pub entry-all : r ≡ None → n ≡ 0 → some l ≡ entry l (pos (suc n))
+  entry-all e z = sym (ap (λ n. some (get_or (l ∷ []) n [])) z) ∙ none-cut e
 
-  pub entry_past : r ≡ Whole → (n ≡ 0 → ⊥) → part_in l (In 0 0) ≡ entry l (pos (suc n))
-  unfolding part_in part_of
+  pub entry_past : r ≡ None → (n ≡ 0 → ⊥) → some [] ≡ entry l (pos (suc n))
   entry_past e z = go n z ∙ none-cut e
     where
       go : (n : ℕ) → (n ≡ 0 → ⊥) → some [] ≡ some (get_or (l ∷ []) n [])
       go zero z = absurd (z refl)
       go (suc n) z = refl
 
+pub found-none : part_found None ≡ none
+unfolding part_found
+found-none = refl
+
+pub found-some : (w : Bor Bytes) → part_found (Some w) ≡ some w.now
+unfolding part_found
+found-some w = refl
+
 -- numbers of entries: below 1 there is none
-pub entry-none : (l : Bytes) (z : ℤ) → lt_z z (pos 1) ≡ true → part_in l NoPart ≡ entry l z
-unfolding part_in entry
+pub entry-none : (l : Bytes) (z : ℤ) → lt_z z (pos 1) ≡ true → none ≡ entry l z
+unfolding entry
 entry-none l (pos zero) h = refl
 entry-none l (pos (suc n)) h = let less = ltb-true (suc n) 1 h in absurd (omega arith)
 entry-none l (negsuc n) h = refl
@@ -428,7 +459,7 @@ unfolding type_of
 type-empty [] h = refl
 type-empty (c ∷ l) h = absurd (omega arith)
 
-module _ (l : Bytes) (some_byte : length l ≡ 0 → ⊥) (w : Number) (h : option_of w ≡ number_in l) where
+module _ (l : Bytes) (some_byte : length l ≡ 0 → ⊥) (w : Maybe ℤ) (h : option_of w ≡ number_in l) where
   pub type-number : {z : ℤ} → w ≡ Some z → 78 ∷ [] ≡ type_of l
   unfolding type_of option_of
   type-number {z} e = go l some_byte (sym h ∙ ap option_of e)
@@ -437,7 +468,7 @@ module _ (l : Bytes) (some_byte : length l ≡ 0 → ⊥) (w : Number) (h : opti
       go [] n e = absurd (n refl)
       go (c ∷ l) n e = sym (ap (λ o. elim o [ none ↦ bytes "U" | some z ↦ bytes "N" ]) e)
 
-  pub type-other : w ≡ Nothing → 85 ∷ [] ≡ type_of l
+  pub type-other : w ≡ None → 85 ∷ [] ≡ type_of l
   unfolding type_of option_of
   type-other e = go l some_byte (sym h ∙ ap option_of e)
     where

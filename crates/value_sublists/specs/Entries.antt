@@ -1,15 +1,13 @@
 -- What a scan of a sublist has passed, and what its answers say. That the entries are 01's is proofs/. Assumes nothing.
-use Rattle.std.specs.Prelude.{ℕ, ◌+◌, ◌-◌, Bool, ◌&&◌, not, List, [], eqb, length, get_or}
+use Rattle.std.specs.Prelude.{ℕ, ◌+◌, ◌-◌, Bool, ◌&&◌, not, List, [], eqb, length, get_or, Some, None}
+use Rattle.std.specs.Prelude.{Option as Maybe}
+use Rattle.std.specs.Borrow.{Bor}
 use Rattle.std.proofs.Math.Option.{Option, none, some}
 use Rattle.text.specs.Bytes.{Bytes}
 use Rattle.rules.specs.Choice.{choose}
 use Rattle.fields.specs.declared.Seen.{Seen as State}
-use Rattle.spans.specs.Spans.{part_of}
 use Rattle.value_sublists.specs.declared.Passed.{Passed}
-use Rattle.value_sublists.specs.declared.Cut.{Cut}
-use Rattle.value_sublists.specs.declared.Cut.TheVariants.{Entries, Whole}
-use Rattle.value_sublists.specs.declared.Part.{Part}
-use Rattle.value_sublists.specs.declared.Part.TheVariants.{In, Nothing}
+use Rattle.value_sublists.specs.declared.Entries.{Entries}
 
 -- the byte c is b, outside quotes and inside one pair of parentheses
 unfoldable pub edges : State → ℕ → ℕ → Bool
@@ -29,14 +27,15 @@ pub record Entry : Type 0 where
   pub count : ℕ
   pub wanted : Bytes
 
-unfoldable pub cut_in : Bytes → Cut → Option Entry
-cut_in s (Entries k at n) = some (record { count = k; wanted = part_of s at n })
-cut_in s Whole = none
+unfoldable pub cut_of : Maybe Entries → Option Entry
+cut_of (Some e) = some (record { count = e.count; wanted = e.wanted.now })
+cut_of None = none
 
 unfoldable pub cut_by : ℕ → Option (List Bytes) → Option Entry
 cut_by n none = none
 cut_by n (some l) = some (record { count = length l; wanted = get_or l n [] })
 
-unfoldable pub part_in : Bytes → Part → Option Bytes
-part_in s (In at n) = some (part_of s at n)
-part_in s Nothing = none
+-- the text that was found, if any was
+unfoldable pub part_of : Maybe (Bor Bytes) → Option Bytes
+part_of (Some s) = some s.now
+part_of None = none

@@ -8,22 +8,23 @@ use lib.ListN.{length, drop}
 use lib.Seq.{drop-drop}
 use lib.IntN.{ℤ, ◌+ℤ◌, ◌-ℤ◌, ◌*ℤ◌}
 use lib.Signed.{quot_z}
-use mathlib.Core.Option.{none, some}
+use mathlib.Core.Option.{Option, none, some}
 use borrow.Author.Tests.{eq-eqb, ne_eqb}
 use Rattle.rules.specs.Values.{within, operate}
 use Rattle.text.specs.Bytes.{Bytes}
 use Rattle.rules.specs.Choice.{choose}
 use Rattle.rules.specs.Lexemes.{Lex, byte, mark, ref, lone, byte_of}
-use Rattle.rules.specs.Limits.{ill_formed}
 use Rattle.rules.specs.Grammar.{Kind, Got, got, refused, plain, rest, then, given, broken, closed}
 use Rattle.rules.specs.Evaluate.{Cell}
-use Rattle.rules.proofs.Choices.{chosen, passed_over}
+use Rattle.rules.proofs.Choices.{by, chosen, passed_over}
 use Rattle.grammar.specs.Tokens.{lex_of, toks_at}
-use Rattle.value_sums.specs.Answers.{option_of, lex_by, toks_by, tells}
-use Rattle.value_sums.specs.declared.Whole.{Whole}
-use Rattle.value_sums.specs.declared.Whole.TheVariants.{Some, Nothing}
-use Rattle.value_sums.specs.declared.Number.{Number}
-use Rattle.value_sums.specs.declared.Number.TheVariants.{Value, Refused}
+use Rattle.std.specs.Prelude.{Result, Ok, Err, Some, None}
+use Rattle.std.specs.Prelude.{Option as Maybe}
+use Rattle.refusals.specs.Numbers.{number_of}
+use Rattle.refusals.specs.declared.Fault.TheVariants.{IllFormed, BadValue}
+use Rattle.value_sums.specs.Answers.{option_of, lex_by, toks_by, tells_as}
+use Rattle.value_sums.specs.declared.Read.{Read}
+use Rattle.value_sums.specs.declared.Refused.{Refused}
 
 -- the text byte at a place is the same whatever the symbols stand for
 same_byte : (kinds : Bytes) (held : ℕ → Cell) (b : ℕ) → byte_of (lex_of kinds b) ≡ byte_of (lex_by held b)
@@ -68,42 +69,59 @@ module _ (held : ℕ → Cell) (code : Bytes) where
   unfolding rest
   toks-rest at = toks-drop at 1
 
-  -- the two ways of a closing parenthesis
-  module _ (z : ℤ) (at c : ℕ) (e : c ≡ plain (toks_by held code at)) where
-    pub closes : c ≡ 41 → got z (toks_by held code (at + 1)) ≡ closed z (toks_by held code at)
-    unfolding closed
-    closes h = sym (chosen _ _ (ap (λ b. eqb b 41) (sym e ∙ h)) ∙ ap (got z) (toks-rest at))
+pub tells-read : {A B : Type 0} (is : A → B) (from : ℕ → List (Lex Cell)) (v : A) (n : ℕ) → tells_as is from (Ok (record { value = v; next = n })) ≡ got (is v) (from n)
+unfolding tells_as
+tells-read is from v n = refl
 
-    pub breaks : eqb c 41 ≡ false → refused ill_formed (length (toks_by held code at)) ≡ closed z (toks_by held code at)
-    unfolding closed broken
-    breaks h = sym (passed_over _ _ (ap (λ b. eqb b 41) (sym e) ∙ h))
+pub tells-broken : {A B : Type 0} (is : A → B) (from : ℕ → List (Lex Cell)) (n : ℕ) → tells_as is from (Err (record { fault = IllFormed; at = n })) ≡ broken (from n)
+unfolding tells_as broken
+tells-broken is from n = refl
 
-module _ (from : ℕ → List (Lex Cell)) (n : ℕ) where
-  pub tells-value : (z : ℤ) → tells from (Value z n) ≡ got z (from n)
-  unfolding tells
-  tells-value z = refl
-
-  pub tells-broken : tells from (Refused 4 n) ≡ broken (from n)
-  unfolding tells broken
-  tells-broken = refl
+pub tells-refused : {A B : Type 0} (is : A → B) (from : ℕ → List (Lex Cell)) (e : Refused) → tells_as is from (Err e) ≡ refused (number_of e.fault) (length (from e.at))
+unfolding tells_as
+tells-refused is from e = refl
 
 pub option-some : (z : ℤ) → option_of (Some z) ≡ some z
 unfolding option_of
 option-some z = refl
 
-pub option-none : option_of Nothing ≡ none
+pub option-none : option_of {A = ℤ} None ≡ none
 unfolding option_of
 option-none = refl
 
--- what a next rule makes of an answer
-module _ {A : Type 0} (from : ℕ → List (Lex Cell)) (k : ℤ → List (Lex Cell) → Got A Cell) where
-  pub then-value : {s : Number} {z : ℤ} {n : ℕ} → s ≡ Value z n → then (tells from s) k ≡ k z (from n)
-  unfolding then tells
-  then-value {s} {z} {n} e = ap (λ s. then (tells from s) k) e
+-- what a next rule makes of what was read, and of a refusal
+module _ {A B W : Type 0} (is : A → B) (from : ℕ → List (Lex Cell)) (k : B → List (Lex Cell) → Got W Cell) {s : Result (Read A) Refused} where
+  pub then-read : {r : Read A} → s ≡ Ok r → then (tells_as is from s) k ≡ k (is r.value) (from r.next)
+  unfolding then tells_as
+  then-read e = ap (λ s. then (tells_as is from s) k) e
 
-pub then-refused : (from : ℕ → List (Lex Cell)) (k : ℤ → List (Lex Cell) → Got ℤ Cell) {s : Number} {e n : ℕ} → s ≡ Refused e n → tells from (Refused e n) ≡ then (tells from s) k
-unfolding then tells
-then-refused from k h = sym (ap (λ s. then (tells from s) k) h)
+  pub then-refused : {C : Type 0} (told : C → W) {e : Refused} → s ≡ Err e → tells_as told from (Err e) ≡ then (tells_as is from s) k
+  unfolding then tells_as
+  then-refused told e = sym (ap (λ s. then (tells_as is from s) k) e)
+
+-- what was read, as something else
+abbrev as_got : {A B : Type 0} → (A → B) → Got A Cell → Got B Cell
+as_got is (got v x) = got (is v) x
+as_got is (refused e left) = refused e left
+
+as-read : {A B : Type 0} (is : A → B) (from : ℕ → List (Lex Cell)) (r : Result (Read A) Refused) → tells_as is from r ≡ as_got is (tells_as (λ v. v) from r)
+unfolding tells_as
+as-read is from (Ok r) = refl
+as-read is from (Err e) = refl
+
+pub closed-as : {A B : Type 0} (is : A → B) (from : ℕ → List (Lex Cell)) (r : Result (Read A) Refused) (v : A) (x : List (Lex Cell)) → tells_as (λ v. v) from r ≡ closed v x → tells_as is from r ≡ closed (is v) x
+unfolding closed broken
+closed-as is from r v x e = as-read is from r ∙ ap (as_got is) e ∙ by (eqb (plain x) 41) (λ t. ap (as_got is) (chosen _ _ t) ∙ sym (chosen _ _ t)) (λ t. ap (as_got is) (passed_over _ _ t) ∙ sym (passed_over _ _ t))
+
+-- a parenthesis that closes, and one that does not
+module _ {A : Type 0} (held : ℕ → Cell) (code : Bytes) (v : A) (at c : ℕ) (e : c ≡ plain (toks_by held code at)) where
+  pub closes : c ≡ 41 → tells_as (λ v. v) (toks_by held code) (Ok (record { value = v; next = at + 1 })) ≡ closed v (toks_by held code at)
+  unfolding closed tells_as
+  closes h = sym (chosen _ _ (ap (λ b. eqb b 41) (sym e ∙ h)) ∙ ap (got v) (toks-rest held code at))
+
+  pub breaks : (c ≡ 41 → ⊥) → tells_as {A = A} (λ v. v) (toks_by held code) (Err (record { fault = IllFormed; at = at })) ≡ closed v (toks_by held code at)
+  unfolding closed tells_as broken
+  breaks h = sym (passed_over _ _ (ap (λ b. eqb b 41) (sym e) ∙ ne_eqb _ _ h))
 
 -- the operations by their signs
 module _ (sign : ℕ) (a b : ℤ) where
@@ -125,27 +143,27 @@ module _ (sign : ℕ) (a b : ℤ) where
       unfolding operate
       over-is h = sym (passed_over _ _ (ne_eqb _ _ p) ∙ passed_over _ _ (ne_eqb _ _ q) ∙ passed_over _ _ (ne_eqb _ _ h))
 
--- a value, or the refusal of the operation at `here`
-module _ (from : ℕ → List (Lex Cell)) (here next : ℕ) {w : Whole} where
-  pub placed-some : {z : ℤ} → w ≡ Some z → tells from (Value z next) ≡ given (option_of w) (from here) (from next)
-  unfolding tells given option_of
+-- a value, or the refusal of what stands at `here`
+module _ {A : Type 0} (from : ℕ → List (Lex Cell)) (here next : ℕ) {w : Maybe A} where
+  pub placed-some : {z : A} → w ≡ Some z → tells_as (λ v. v) from (Ok (record { value = z; next = next })) ≡ given (option_of w) (from here) (from next)
+  unfolding tells_as given option_of
   placed-some e = sym (ap (λ w. given (option_of w) (from here) (from next)) e)
 
-  pub placed-none : w ≡ Nothing → tells from (Refused 8 here) ≡ given (option_of w) (from here) (from next)
-  unfolding tells given option_of
+  pub placed-none : w ≡ None → tells_as (λ v. v) from (Err (record { fault = BadValue; at = here })) ≡ given (option_of w) (from here) (from next)
+  unfolding tells_as given option_of
   placed-none e = sym (ap (λ w. given (option_of w) (from here) (from next)) e)
 
--- one more operation on what was read
-pub joined-value : (from : ℕ → List (Lex Cell)) (sign : ℕ) (a b : ℤ) (here next : ℕ) (w : Whole) {right : Number} (r : Number) → right ≡ Value b next → option_of w ≡ operate sign a b
-    → tells from r ≡ given (option_of w) (from here) (from next) → tells from r ≡ then (tells from right) (λ b y. given (operate sign a b) (from here) y)
-joined-value from sign a b here next w r e o h = h ∙ ap (λ o. given o (from here) (from next)) o ∙ sym (then-value from _ e)
+-- a value where it may stand, as something else
+abbrev pub map_to : {A B : Type 0} → (A → B) → Option A → Option B
+map_to is none = none
+map_to is (some v) = some (is v)
 
--- a parenthesis that closes behind a value, and one that does not
-module _ (held : ℕ → Cell) (code : Bytes) {s : Number} {z : ℤ} {at c : ℕ} (e : s ≡ Value z at) (p : c ≡ plain (toks_by held code at)) where
-  pub closed-there : c ≡ 41 → tells (toks_by held code) (Value z (at + 1)) ≡ then (tells (toks_by held code) s) closed
-  unfolding tells
-  closed-there h = closes held code z at c p h ∙ sym (then-value _ _ e)
-
-  pub closed-not : (c ≡ 41 → ⊥) → tells (toks_by held code) (Refused 4 at) ≡ then (tells (toks_by held code) s) closed
-  unfolding tells
-  closed-not h = breaks held code z at c p (ne_eqb _ _ h) ∙ sym (then-value _ _ e)
+pub given-as : {A B : Type 0} (is : A → B) (from : ℕ → List (Lex Cell)) (r : Result (Read A) Refused) (fits : Bool) (o : Option A) (x y : List (Lex Cell)) → tells_as (λ v. v) from r ≡ choose fits (given o x y) (broken x)
+    → tells_as is from r ≡ choose fits (given (map_to is o) x y) (broken x)
+unfolding given broken choose
+given-as is from r fits o x y e = as-read is from r ∙ ap (as_got is) e ∙ go fits o
+  where
+    go : (t : Bool) (o : Option _) → as_got is (choose t (given o x y) (broken x)) ≡ choose t (given (map_to is o) x y) (broken x)
+    go true none = refl
+    go true (some v) = refl
+    go false o = refl

@@ -1,165 +1,145 @@
-// Arithmetic on values: operations on i32, each computed in i64, and the operators of an expression.
+// Arithmetic on values: what reading a value gives, operations on numbers that refuse a result out of range, and decimal numbers.
 #![tactic(auto)]
 
-ghost use Rattle.std.specs.Prelude.{◌≡◌, List, ℕ, ℤ, ◌+ℤ◌, ◌-ℤ◌, ◌*ℤ◌};
+ghost use Rattle.std.specs.Prelude.{◌≡◌, true, List, length, take, drop, ℕ, ℤ, pos};
 ghost use Rattle.std.specs.Int.Signed.{quot_z};
-ghost use Rattle.rules.specs.Values.{within, number_in};
+ghost use Rattle.rules.specs.Values.{within, spelt, number_in};
 ghost use Rattle.rules.specs.Values.{operate as operate_by};
+ghost use Rattle.text.specs.Characters.{digit};
+ghost use Rattle.rules.specs.Choice.{run, every};
 ghost use Rattle.rules.specs.Lexemes.{Lex};
 ghost use Rattle.rules.specs.Evaluate.{Cell, values};
-ghost use Rattle.rules.specs.Grammar.{Got, then, given, decimal_number};
+ghost use Rattle.rules.specs.Grammar.{Got, plain, given, decimal_number};
 ghost use Rattle.rules.specs.Grammar.{closed as closed_by};
-ghost use Rattle.value_sums.specs.Answers.{option_of, toks_by, tells};
+ghost use Rattle.value_sums.specs.Answers.{option_of, toks_by, tells_as, tells};
 
-// A number in range, or none.
+use refusals::Fault;
+
+// A value that was read, and the place behind it.
 #[derive(Clone, Copy)]
-pub enum Whole {
-    Some(i32),
-    Nothing,
+pub struct Read<T> {
+    pub value: T,
+    pub next: usize,
 }
 
-// What evaluation gives: a number and the place behind it; or a refusal's number, and the place of the refused term or operator.
+// A refusal, and the place of the refused term or operator.
 #[derive(Clone, Copy)]
-pub enum Number {
-    Value(i32, usize),
-    Refused(u8, usize),
+pub struct Refused {
+    pub fault: Fault,
+    pub at: usize,
 }
 
-fn in_range(z: i64) -> Whole
-    ensures { option_of result ≡ within z }
-{
-    if z < -2147483648 {
-        return Whole::Nothing;
-    }
-    if z > 2147483647 {
-        return Whole::Nothing;
-    }
-    Whole::Some(z as i32)
-}
-
-fn add(a: i32, b: i32) -> Whole
-    ensures { option_of result ≡ within (a +ℤ b) }
-{
-    in_range((a as i64) + (b as i64))
-}
-
-fn subtract(a: i32, b: i32) -> Whole
-    ensures { option_of result ≡ within (a -ℤ b) }
-{
-    in_range((a as i64) - (b as i64))
-}
-
-fn multiply(a: i32, b: i32) -> Whole
-    ensures { option_of result ≡ within (a *ℤ b) }
-{
-    in_range((a as i64) * (b as i64))
-}
-
-fn divide(a: i32, b: i32) -> Whole
+fn quotient(a: i32, b: i32) -> Option<i32>
     ensures { option_of result ≡ within (quot_z a b) }
 {
-    if b == 0 {
-        return Whole::Some(0);
-    }
-    in_range((a as i64) / (b as i64))
+    if b == 0 { Some(0) } else { a.checked_div(b) }
 }
 
-// One operation.
-fn operate(sign: u8, a: i32, b: i32) -> Whole
+// One operation: the number that it gives, if it is in range.
+fn operate(sign: u8, a: i32, b: i32) -> Option<i32>
     ensures { option_of result ≡ operate_by sign a b }
 {
-    if sign == 43 {
-        return add(a, b);
-    }
-    if sign == 45 {
-        return subtract(a, b);
-    }
-    if sign == 42 {
-        return multiply(a, b);
-    }
-    divide(a, b)
-}
-
-// What an operation gives, if its sign stands at `here`.
-pub fn placed(w: Whole, here: usize, next: usize) -> Number
-    ensures { (from : ℕ → List (Lex Cell)) → tells from result ≡ given (option_of w) (from here) (from next) }
-{
-    match w {
-        Whole::Some(z) => Number::Value(z, next),
-        Whole::Nothing => Number::Refused(8, here),
+    match sign {
+        b'+' => a.checked_add(b),
+        b'-' => a.checked_sub(b),
+        b'*' => a.checked_mul(b),
+        _ => quotient(a, b),
     }
 }
 
-// The operation whose sign stands at `here`, on the value before it and what stands behind it.
-pub fn joined(sign: u8, a: i32, here: usize, right: Number) -> Number
-    ensures { (from : ℕ → List (Lex Cell)) → tells from result ≡ then (tells from right) (λ b y. given (operate_by sign a b) (from here) y) }
+// A value and the place behind it; where there is none, what stands at `here` is refused.
+pub fn placed<T: Copy>(value: Option<T>, here: usize, next: usize) -> Result<Read<T>, Refused>
+    ensures { (from : ℕ → List (Lex Cell)) → tells_as (λ v. v) from result ≡ given (option_of value) (from here) (from next) }
 {
-    match right {
-        Number::Value(b, next) => placed(operate(sign, a, b), here, next),
-        Number::Refused(e, at) => Number::Refused(e, at),
+    match value {
+        Some(value) => Ok(Read { value, next }),
+        None => Err(Refused {
+            fault: Fault::BadValue,
+            at: here,
+        }),
     }
 }
 
-// The parenthesis that closes.
-pub fn closed(code: &[u8], so_far: Number) -> Number
-    ensures { (held : ℕ → Cell) → tells (toks_by held code.now) result ≡ then (tells (toks_by held code.now) so_far) closed_by }
+// The operation whose sign stands behind `left`, on both values.
+pub fn joined(code: &[u8], left: Read<i32>, right: Read<i32>) -> Result<Read<i32>, Refused>
+    ensures { (held : ℕ → Cell) → tells (toks_by held code.now) result ≡ given (operate_by (plain (toks_by held code.now left.next)) left.value right.value) (toks_by held code.now left.next) (toks_by held code.now right.next) }
 {
-    match so_far {
-        Number::Value(z, at) => {
-            if grammar::text_at(code, at) == 41 {
-                Number::Value(z, at + 1)
-            } else {
-                Number::Refused(4, at)
-            }
+    let sign = grammar::text_at(code, left.next);
+    placed(
+        operate(sign, left.value, right.value),
+        left.next,
+        right.next,
+    )
+}
+
+// What was read, and the parenthesis that closes.
+pub fn closed<T: Copy>(code: &[u8], read: Read<T>) -> Result<Read<T>, Refused>
+    ensures { (held : ℕ → Cell) → tells_as (λ v. v) (toks_by held code.now) result ≡ closed_by read.value (toks_by held code.now read.next) }
+{
+    let at = read.next;
+    if grammar::text_at(code, at) == b')' {
+        Ok(Read {
+            value: read.value,
+            next: at + 1,
+        })
+    } else {
+        Err(Refused {
+            fault: Fault::IllFormed,
+            at,
+        })
+    }
+}
+
+// The number that digits spell, if it is in range.
+fn spelt(digits: &[u8]) -> Option<i32>
+    requires { every digit digits.now ≡ true }
+    ensures { option_of result ≡ within (pos (spelt 0 digits.now)) }
+{
+    let mut number: u64 = 0;
+    for &c in digits {
+        number = number * 10 + u64::from(c - b'0');
+        if number > 2147483647 {
+            return None;
         }
-        Number::Refused(e, at) => Number::Refused(e, at),
     }
+    Some(number as i32)
+}
+
+// The digits that stand first behind place `at`.
+fn digits_at(code: &[u8], at: usize) -> &[u8]
+    ensures { (result.now ≡ take (run digit (drop at code.now)) (drop at code.now)) × (length result.now ≡ run digit (drop at code.now)) }
+{
+    let Some(rest) = code.get(at..) else {
+        return &[];
+    };
+    let size = rest
+        .iter()
+        .position(|&c| !chars::digit(c))
+        .unwrap_or(rest.len());
+    &rest[..size]
 }
 
 // A decimal number.
-pub fn decimal(code: &[u8], at: usize) -> Number
+pub fn decimal(code: &[u8], at: usize) -> Result<Read<i32>, Refused>
     ensures { (held : ℕ → Cell) (inner : List (Lex Cell) → Got ℤ Cell) → tells (toks_by held code.now) result ≡ decimal_number values inner (toks_by held code.now at) }
 {
-    let mut n: u64 = 0;
-    let mut here = at;
-    loop {
-        let c = grammar::text_at(code, here);
-        if !chars::digit(c) {
-            if chars::letter(c) {
-                return Number::Refused(4, at);
-            }
-            return Number::Value(n as i32, here);
-        }
-        n = n * 10 + (c - 48) as u64;
-        if 2147483647 < n {
-            return Number::Refused(4, at);
-        }
-        here = here + 1;
+    let digits = digits_at(code, at);
+    let next = at + digits.len();
+    match spelt(digits) {
+        Some(value) if !chars::letter(grammar::text_at(code, next)) => Ok(Read { value, next }),
+        _ => Err(Refused {
+            fault: Fault::IllFormed,
+            at,
+        }),
     }
 }
 
 // The number that a value is: 1 to 10 digits, within range.
-pub fn digits_in(s: &[u8]) -> Whole
+pub fn digits_in(s: &[u8]) -> Option<i32>
     ensures { option_of result ≡ number_in s.now }
 {
-    if s.len() == 0 {
-        return Whole::Nothing;
+    if s.is_empty() || 10 < s.len() || !s.iter().all(|&c| chars::digit(c)) {
+        return None;
     }
-    if 10 < s.len() {
-        return Whole::Nothing;
-    }
-    let mut n: u64 = 0;
-    let mut i = 0;
-    while i < s.len() {
-        let c = s[i];
-        if !chars::digit(c) {
-            return Whole::Nothing;
-        }
-        n = n * 10 + (c - 48) as u64;
-        if 2147483647 < n {
-            return Whole::Nothing;
-        }
-        i += 1;
-    }
-    Whole::Some(n as i32)
+    spelt(s)
 }

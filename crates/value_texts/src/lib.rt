@@ -16,24 +16,19 @@ pub fn append(out: &mut [u8], t: Text, s: &[u8]) -> Text
     requires { (255 ≤ length out.old) × (t.size + length s.now < 2 ^ 64) }
     ensures { held_in out.new result ≡ joined_held (held_in out.old t) s.now }
 {
-    let size = t.size;
-    let over = t.over;
-    let next = size + s.len();
-    if 255 < next {
-        return Text { size: next, over };
+    let size = t.size + s.len();
+    if size <= limits::STRING {
+        lent::copy(out, t.size, s);
     }
-    lent::copy(out, size, s);
-    Text { size: next, over }
+    Text { size, ..t }
 }
 
 // A string that is complete: over 255 bytes it will be refused.
 pub fn measured(t: Text) -> Text
     ensures { (out : List ℕ) → held_in out result ≡ measured_held (held_in out t) }
 {
-    let size = t.size;
-    let over = t.over;
     Text {
-        size,
-        over: over | (255 < size),
+        over: t.over | (limits::STRING < t.size),
+        ..t
     }
 }

@@ -2,7 +2,7 @@
 use Prim.Native.Nat.{ℕ, ◌+◌, ◌-◌, ◌*◌, ◌≤◌, ◌<◌}
 use native.Mathlib.Nat.{sub-zero}
 use native.Mathlib.Omega.{arith}
-use mathlib.Core.Path.{◌≡◌, refl, ap, sym, ◌∙◌, subst}
+use mathlib.Core.Path.{◌≡◌, ap, sym, ◌∙◌, subst}
 use mathlib.Core.Bool.{true}
 use mathlib.Core.List.{List, ◌∷◌, map}
 use lib.ListN.{length, take, drop, length-drop}
@@ -20,12 +20,14 @@ use Rattle.names.specs.Names.{titles_in, padded}
 use Rattle.tables.specs.Titles.{fits_row}
 use Rattle.symbols.specs.Held.{Held}
 use Rattle.prototypes.specs.Lowest.{lowest}
+use Rattle.walking.specs.declared.Body.{Body as Kept}
+use Rattle.walking.specs.declared.Place.TheVariants.{Outer, Inner, Prototype as Before}
 use Rattle.walking.specs.declared.Walk.{Walk as Stand}
 use Rattle.walking.specs.Verdicts.{fault_number, own_number}
 use Rattle.walking.specs.Walks.{part, Inside, Placed, Follows, AtLine}
 use Rattle.walking.proofs.Answers.{over-limit, other-fault, within-limit}
 use Rattle.walking.proofs.Turns as turns
-use Rattle.walking.proofs.Passing.{is-outer, is-prototype}
+use Rattle.walking.proofs.Passing.{is-outer, is-prototype, is-inside}
 
 -- ---- the tests, by the place
 
@@ -44,12 +46,12 @@ module _ (library : Bytes) (w : Stand) (end : ℕ) (titles own global shared kin
   abbrev ls : List Bytes
   ls = lines_of (drop (end + 1) library)
 
-  pub outer_told : (r : ℕ) → w.place ≡ 0
+  pub outer_told : (r : ℕ) → w.place ≡ Outer
       → ((b : Around) → b.macros ≡ w.macros → (ms : List Bytes) → r ≡ lowest (is_ill_written l) (is_out_of_place outer l) (has_bad_name b l ms outer) (is_ill_formed l outer) (is_past b l outer))
       → r ≡ own_number a (take (end - w.at) (drop w.at library)) (lines_of (drop (end + 1) library))
   outer_told r z h = number_at a l ls r outer (is-outer library w own global shared kinds a.globals a.place f.placed z) (h a f.macros-are ls)
 
-  pub prototype-told : (r : ℕ) → w.place ≡ 1
+  pub prototype-told : (r : ℕ) → w.place ≡ Before
       → ((ts : List Bytes) (b : Around) → titles_in (take (w.titles * 8 - 0) titles) ≡ map padded ts → every fits_row ts ≡ true
       → r ≡ lowest (is_ill_written l) (is_out_of_place at_prototype l) (has_bad_prototype_name ts (fields_of l)) (is_ill_formed l at_prototype) (is_past b l at_prototype))
       → r ≡ own_number a (take (end - w.at) (drop w.at library)) (lines_of (drop (end + 1) library))
@@ -58,44 +60,40 @@ module _ (library : Bytes) (w : Stand) (end : ℕ) (titles own global shared kin
       number_at a l ls r at_prototype (is-prototype library w own global shared kinds a.globals a.place f.placed z)
       (h a.titles a (ap (λ (n : ℕ). titles_in (take n titles)) (sub-zero (w.titles * 8)) ∙ f.titled.listed) f.titled.fitting)
 
-  module _ (y : w.place ≡ 0 → ⊥) (z : w.place ≡ 1 → ⊥) where
+  module _ (k : Kept) (y : w.place ≡ Inner k) where
     abbrev before : Bytes
-    before = part library w.body w.at
+    before = part library k.start w.at
 
     -- the prototype of the body in which the walk is
     record Body : Type 0 where
       p : Bytes
-      is : a.place ≡ in_body p (lines_of (part library w.body w.at))
-      stands : Inside library w own global shared kinds a.globals p (lines_of (part library w.body w.at))
-
-    stand : (pl : Place) → a.place ≡ pl → Placed library w own global shared kinds a.globals pl → Body
-    stand outer e h = absurd (y h.0)
-    stand at_prototype e h = absurd (z h.0)
-    stand (in_body p b) e h = record {
-      p = p;
-      is = e ∙ ap (in_body p) (sym h.before-are);
-      stands = subst (Inside library w own global shared kinds a.globals p) (sym h.before-are) h;
-    }
+      is : a.place ≡ in_body p (lines_of (part library k.start w.at))
+      stands : Inside library w k own global shared kinds a.globals p (lines_of (part library k.start w.at))
 
     here : Body
-    here = stand a.place refl f.placed
+    here = is-inside library w own global shared kinds a.globals k a.place f.placed y
+        (λ p b e h. record {
+          p = p;
+          is = e ∙ ap (in_body p) (sym h.before-are);
+          stands = subst (Inside library w k own global shared kinds a.globals p) (sym h.before-are) h;
+        })
 
-    pub body-bounds : (w.body ≤ w.at) × ((w.parameters ≤ w.own) × (w.own ≤ 32))
+    pub body-bounds : (k.start ≤ w.at) × ((k.parameters ≤ w.rows.own) × (w.rows.own ≤ 32))
     body-bounds =
         let b = here in
         let s = b.stands in
         let o = turns.own-are library w own global shared kinds a.globals b.p (lines_of before) s in
         (s.starts, (omega (arith, o), omega (arith, o, s.few-parameters, s.few-locals)))
 
-    pub few-global : w.global ≤ 16
+    pub few-global : w.rows.global ≤ 16
     few-global =
         let b = here in
         omega (arith, turns.few-global library w own global shared kinds a.globals b.p (lines_of before) b.stands (omega (arith, f.globals-in.counted, f.few-globals)))
 
     pub body-told : (r : ℕ) → w.at < length library → end ≡ line_end library w.at
         → ((b : Around) (p : Bytes) (ms : List Bytes)
-        → Held (names_of p (lines_of before)) b.globals (take (w.own * 8 - 0) own) (take (w.global * 8 - 0) global) (take (w.shared * 8 - 0) shared) kinds
-        → lines_of (take (length library - w.at) (drop w.at library)) ≡ l ∷ ms → w.ended ≡ any ends_declarations (lines_of before) → w.own - w.parameters ≡ length (names_of p (lines_of before)).locals
+        → Held (names_of p (lines_of before)) b.globals (take (w.rows.own * 8 - 0) own) (take (w.rows.global * 8 - 0) global) (take (w.rows.shared * 8 - 0) shared) kinds
+        → lines_of (take (length library - w.at) (drop w.at library)) ≡ l ∷ ms → k.ended ≡ any ends_declarations (lines_of before) → w.rows.own - k.parameters ≡ length (names_of p (lines_of before)).locals
         → r ≡ lowest (is_ill_written l) (is_out_of_place (in_body p (lines_of before)) l) (has_bad_name b l ms (in_body p (lines_of before))) (is_ill_formed l (in_body p (lines_of before))) (is_past b l (in_body p (lines_of before))))
         → r ≡ own_number a (take (end - w.at) (drop w.at library)) (lines_of (drop (end + 1) library))
     body-told r inf e h =
@@ -103,11 +101,11 @@ module _ (library : Bytes) (w : Stand) (end : ℕ) (titles own global shared kin
         let s = b.stands in
         let o = turns.own-are library w own global shared kinds a.globals b.p (lines_of before) s in
         let n = length-drop w.at library in
-        let cut : (n : ℕ) (t : Bytes) → take n t ≡ take (n - 0) t = λ n t. ap (λ (k : ℕ). take k t) (sym (sub-zero n)) in
+        let cut : (n : ℕ) (t : Bytes) → take n t ≡ take (n - 0) t = λ n t. ap (λ (m : ℕ). take m t) (sym (sub-zero n)) in
         let names = names_of b.p (lines_of before) in
-        let held = subst (λ (t : Bytes). Held names a.globals (take (w.own * 8 - 0) own) (take (w.global * 8 - 0) global) t kinds) (cut (w.shared * 8) shared)
-        (subst (λ (t : Bytes). Held names a.globals (take (w.own * 8 - 0) own) t (take (w.shared * 8) shared) kinds) (cut (w.global * 8) global)
-        (subst (λ (t : Bytes). Held names a.globals t (take (w.global * 8) global) (take (w.shared * 8) shared) kinds) (cut (w.own * 8) own) s.held)) in
+        let held = subst (λ (t : Bytes). Held names a.globals (take (w.rows.own * 8 - 0) own) (take (w.rows.global * 8 - 0) global) t kinds) (cut (w.rows.shared * 8) shared)
+        (subst (λ (t : Bytes). Held names a.globals (take (w.rows.own * 8 - 0) own) t (take (w.rows.shared * 8) shared) kinds) (cut (w.rows.global * 8) global)
+        (subst (λ (t : Bytes). Held names a.globals t (take (w.rows.global * 8) global) (take (w.rows.shared * 8) shared) kinds) (cut (w.rows.own * 8) own) s.held)) in
         number_at a l ls r (in_body b.p (lines_of before)) b.is
         (h a b.p ls held (ap lines_of (take_all (length library - w.at) (drop w.at library) (omega (arith, n))) ∙ turn library w.at end inf e) s.has_ended (omega (arith, o)))
 
@@ -130,12 +128,12 @@ module _ (library : Bytes) (w : Stand) (end : ℕ) (titles own global shared kin
       go : (pl : Place) → Placed library w own global shared kinds x.walked.around.globals pl → w.titles ≤ 32
       go outer h = omega (arith, h.1, f.few-macros)
       go at_prototype h = omega (arith, h.1, f.few-macros)
-      go (in_body p b) h = omega (arith, h.few-titles, f.few-macros)
+      go (in_body p b) h = omega (arith, h.1.few-titles, f.few-macros)
 
-  pub body-rows : (w.place ≡ 0 → ⊥) → (w.place ≡ 1 → ⊥) → (w.body ≤ w.at) × ((w.parameters ≤ w.own) × ((w.own ≤ 32) × ((w.global ≤ 16) × (w.shared ≤ 16))))
-  body-rows y z =
-      let b = body-bounds library w end titles own global shared kinds x.walked.around f y z in
-      let g = few-global library w end titles own global shared kinds x.walked.around f y z in
+  pub body-rows : (k : Kept) → w.place ≡ Inner k → (k.start ≤ w.at) × ((k.parameters ≤ w.rows.own) × ((w.rows.own ≤ 32) × ((w.rows.global ≤ 16) × (w.rows.shared ≤ 16))))
+  body-rows k y =
+      let b = body-bounds library w end titles own global shared kinds x.walked.around f k y in
+      let g = few-global library w end titles own global shared kinds x.walked.around f k y in
       (b.0, (b.1.0, (b.1.1, (g, f.few-globals))))
 
 -- ---- the limit of lines

@@ -22,6 +22,9 @@ use Rattle.names.specs.Names.{padded}
 use Rattle.symbols.specs.Declared.{add_locals, add_globals}
 use Rattle.collecting.specs.declared.Rows.{Rows as Counts}
 use Rattle.collecting.specs.Collected.{Room, Declares, Declared, Prototype, Starts}
+use Rattle.walking.specs.declared.Place.{Place as Where}
+use Rattle.walking.specs.declared.Body.{Body as Kept}
+use Rattle.walking.specs.declared.Place.TheVariants.{Outer, Inner, Prototype as Before}
 use Rattle.walking.specs.declared.Walk.{Walk as Stand}
 use Rattle.walking.specs.Verdicts.{globals_from, globals_at}
 use Rattle.walking.specs.Walks.{Inside, Placed, Follows, Sizes, Walked, Ready}
@@ -30,24 +33,52 @@ use Rattle.walking.proofs.Declarations as declarations
 use Rattle.walking.proofs.Turns.{behind_macro, behind_other, behind_prototype, behind_mend, behind_line}
 use Rattle.walking.proofs.Turns as turns
 
--- ---- the place, by its number
+-- ---- the place
+
+-- no place is another
+place_number : Where → ℕ
+place_number Outer = 0
+place_number Before = 1
+place_number (Inner here) = 2
+
+kept : Kept → Where → Kept
+kept k Outer = k
+kept k Before = k
+kept k (Inner here) = here
+
+same-body : (here there : Kept) → Inner here ≡ Inner there → here ≡ there
+unfolding kept
+same-body here there e = ap (kept here) e
+
+pub before-apart : {pl : Where} → pl ≡ Before → pl ≡ Outer → ⊥
+unfolding place_number
+before-apart e f = omega (arith, ap place_number (sym e ∙ f))
+
+pub inner-apart : {pl : Where} {here : Kept} → pl ≡ Inner here → pl ≡ Outer → ⊥
+unfolding place_number
+inner-apart e f = omega (arith, ap place_number (sym e ∙ f))
 
 module _ (library : Bytes) (w : Stand) (own global shared kinds : Bytes) (gs : List (Bytes × Set)) where
-  pub is-outer : (pl : Place) → Placed library w own global shared kinds gs pl → w.place ≡ 0 → pl ≡ outer
+  pub is-outer : (pl : Place) → Placed library w own global shared kinds gs pl → w.place ≡ Outer → pl ≡ outer
+  unfolding place_number
   is-outer outer h e = refl
-  is-outer at_prototype h e = absurd (omega (arith, h.0, e))
-  is-outer (in_body p before) h e = absurd (omega (arith, h.is_body, e))
+  is-outer at_prototype h e = absurd (omega (arith, ap place_number (sym h.0 ∙ e)))
+  is-outer (in_body p before) h e = absurd (omega (arith, ap place_number (sym h.1.is_body ∙ e)))
 
-  pub is-prototype : (pl : Place) → Placed library w own global shared kinds gs pl → w.place ≡ 1 → pl ≡ at_prototype
-  is-prototype outer h e = absurd (omega (arith, h.0, e))
+  pub is-prototype : (pl : Place) → Placed library w own global shared kinds gs pl → w.place ≡ Before → pl ≡ at_prototype
+  unfolding place_number
+  is-prototype outer h e = absurd (omega (arith, ap place_number (sym h.0 ∙ e)))
   is-prototype at_prototype h e = refl
-  is-prototype (in_body p before) h e = absurd (omega (arith, h.is_body, e))
+  is-prototype (in_body p before) h e = absurd (omega (arith, ap place_number (sym h.1.is_body ∙ e)))
 
-  pub is-inside : {C : Type 0} (pl : Place) → Placed library w own global shared kinds gs pl → (w.place ≡ 0 → ⊥) → (w.place ≡ 1 → ⊥)
-      → ((p : Bytes) (before : List Bytes) → pl ≡ in_body p before → C) → C
-  is-inside outer h e f k = absurd (e h.0)
-  is-inside at_prototype h e f k = absurd (f h.0)
-  is-inside (in_body p before) h e f k = k p before refl
+  -- in a body, of which the walk has `here`
+  pub is-inside : {C : Type 0} (here : Kept) (pl : Place) → Placed library w own global shared kinds gs pl → w.place ≡ Inner here
+      → ((p : Bytes) (before : List Bytes) → pl ≡ in_body p before → Inside library w here own global shared kinds gs p before → C) → C
+  unfolding place_number
+  is-inside here outer h e k = absurd (omega (arith, ap place_number (sym h.0 ∙ e)))
+  is-inside here at_prototype h e k = absurd (omega (arith, ap place_number (sym h.0 ∙ e)))
+  is-inside here (in_body p before) h e k =
+      k p before refl (subst (λ (q : Kept). Inside library w q own global shared kinds gs p before) (same-body h.0 here (sym h.1.is_body ∙ e)) h.1)
 
 pub as-placed : (a : Around) (pl : Place) → a.place ≡ pl → a ≡ around a.lines a.macros a.titles a.globals pl
 as-placed a pl e = λ i. record { lines = a.lines; macros = a.macros; titles = a.titles; globals = a.globals; place = e i }
@@ -120,7 +151,7 @@ module _ (library : Bytes) (w : Stand) (end : ℕ) (titles own global shared kin
 
     -- ---- outside definitions
 
-    module _ (z : w.place ≡ 0) where
+    module _ (z : w.place ≡ Outer) where
       here : Known outer
       here = known outer (is-outer library w own global shared kinds a.globals a.place placed z)
 
@@ -142,7 +173,7 @@ module _ (library : Bytes) (w : Stand) (end : ℕ) (titles own global shared kin
 
     -- ---- at a prototype
 
-    module _ (z : w.place ≡ 1) where
+    module _ (z : w.place ≡ Before) where
       there : Known at_prototype
       there = known at_prototype (is-prototype library w own global shared kinds a.globals a.place placed z)
 
@@ -179,7 +210,7 @@ module _ (library : Bytes) (w : Stand) (end : ℕ) (titles own global shared kin
           let s = r.walked.sizes in
           let x = k.follows.globals-in in
           let t' = t ∙ ap (λ (y : Bytes). splice titles (w.titles * 8) (padded y)) o in
-          let held = starts k.gs (take (w.shared * 8) shared) x.listed (ap (λ (y : ℕ). take y (drop 64 kinds)) x.counted ∙ x.numbered)
+          let held = starts k.gs (take (w.rows.shared * 8) shared) x.listed (ap (λ (y : ℕ). take y (drop 64 kinds)) x.counted ∙ x.numbered)
           (omega (arith, x.counted, k.follows.few-globals)) in
           let f = turns.prototype-passed library w titles own global shared kinds k.n k.m k.ts k.gs (past_newline library end) l ls k.follows k.fine next-inside
           titles' own' kinds' count t' s.titles-size held c d in
@@ -200,19 +231,21 @@ module _ (library : Bytes) (w : Stand) (end : ℕ) (titles own global shared kin
 
     -- ---- in a body
 
-    module _ (y : w.place ≡ 0 → ⊥) (z : w.place ≡ 1 → ⊥) where
+    module _ (here : Kept) (z : w.place ≡ Inner here) where
       -- the prototype, and the lines before
       record InBody : Type 0 where
         p : Bytes
         before : List Bytes
         all : Known (in_body p before)
+        same : all.follows.placed.0 ≡ here
 
       within : InBody
       within =
-          is-inside library w own global shared kinds a.globals a.place placed y z
-          (λ p before e. record { p = p; before = before; all = known (in_body p before) e })
+          is-inside library w own global shared kinds a.globals here a.place placed z
+          (λ p before e _. let k = known (in_body p before) e in
+          record { p = p; before = before; all = k; same = same-body k.follows.placed.0 here (sym k.follows.placed.1.is_body ∙ z) })
 
-      pub line-room : Room (take (end - w.at) (drop w.at library)) (record { own = w.own; global = w.global; shared = w.shared }) own global shared kinds
+      pub line-room : Room (take (end - w.at) (drop w.at library)) w.rows own global shared kinds
       line-room =
           let i = within in
           let k = i.all in
@@ -222,14 +255,14 @@ module _ (library : Bytes) (w : Stand) (end : ℕ) (titles own global shared kin
             sizes = record { own-size = s.own-size; global-size = s.global-size; shared-size = s.shared-size; kinds-size = s.kinds-size };
             line-length = turns.line-short k.fine;
             few-own = turns.room-own library w titles own global shared kinds k.n k.m k.ts k.gs i.p i.before end ls k.follows r.in-file r.end_is k.fine;
-            few-global = omega (arith, turns.few-global library w own global shared kinds k.gs i.p i.before k.follows.placed few);
+            few-global = omega (arith, turns.few-global library w own global shared kinds k.gs i.p i.before k.follows.placed.1 few);
             few-shared = omega (arith, k.follows.few-globals);
             short-locals = declarations.short-locals k.n k.m k.ts k.gs i.p i.before l ls k.fine;
             short-globals = declarations.short-globals k.n k.m k.ts k.gs i.p i.before l ls k.fine;
           }
 
       module _ (own' global' shared' kinds' : Bytes) (o : Counts)
-          (declares : Declares (take (end - w.at) (drop w.at library)) (record { own = w.own; global = w.global; shared = w.shared }) own global shared kinds o own' global' shared' kinds')
+          (declares : Declares (take (end - w.at) (drop w.at library)) w.rows own global shared kinds o own' global' shared' kinds')
           (long₁ : length own' ≡ length own) (long₂ : length global' ≡ length global) (long₃ : length shared' ≡ length shared) (long₄ : length kinds' ≡ length kinds) where
         new-sizes : Sizes titles own' global' shared' kinds'
         new-sizes =
@@ -245,30 +278,31 @@ module _ (library : Bytes) (w : Stand) (end : ℕ) (titles own global shared kin
         is-declared : (i : InBody) → Declared (add_globals (add_locals (names_of i.p i.before) (locals_on l)) (globals_on l)) (with_globals i.all.gs (globals_on l)) o own' global' shared' kinds'
         is-declared i =
             let k = i.all in
-            let b : Inside library w own global shared kinds k.gs i.p i.before = k.follows.placed in
+            let b = k.follows.placed.1 in
             let few = turns.more-globals library w titles own global shared kinds k.n k.m k.ts k.gs i.p i.before end ls k.follows r.in-file r.end_is k.fine in
             declares (names_of i.p i.before) k.gs b.held b.mine b.theirs k.follows.globals-in.counted (omega (arith, few))
             (declarations.one-kind k.n k.m k.ts k.gs i.p i.before l ls k.fine) (declarations.rightly k.n k.m k.ts k.gs i.p i.before l ls k.fine)
 
         pub mend-walked : (next : ℕ) → next ≡ past_newline library end → is_mend (take (end - w.at) (drop w.at library)) ≡ true
-            → Walked library (behind_mend w next o.own o.global o.shared) titles own' global' shared' kinds'
+            → Walked library (behind_mend w next o) titles own' global' shared' kinds'
         mend-walked next e t =
             let i = within in
             let k = i.all in
             let d = is-declared i in
             let f = turns.mend-passed library w titles own global shared kinds k.n k.m k.ts k.gs i.p i.before end ls k.follows r.in-file r.end_is k.fine
-            own' global' shared' kinds' o.own o.global o.shared d.held d.own d.global d.shared t in
-            subst (λ (q : ℕ). Walked library (behind_mend w q o.own o.global o.shared) titles own' global' shared' kinds') (sym e)
+            own' global' shared' kinds' o d.held d.own d.global d.shared t in
+            subst (λ (q : ℕ). Walked library (behind_mend w q o) titles own' global' shared' kinds') (sym e)
             (record { around = around_after l (around k.n k.m k.ts k.gs (in_body i.p i.before)); follows = f; sizes = new-sizes; verdict-is = k.on; globals-are = k.globals-on })
 
         pub line-walked : (next : ℕ) → next ≡ past_newline library end → is_mend (take (end - w.at) (drop w.at library)) ≡ false
             → (ends : Bool) → ends ≡ ends_declarations (take (end - w.at) (drop w.at library))
-            → Walked library (behind_line w next ends o.own o.global o.shared) titles own' global' shared' kinds'
+            → Walked library (behind_line w here next ends o) titles own' global' shared' kinds'
         line-walked next e t ends q =
             let i = within in
             let k = i.all in
             let d = is-declared i in
             let f = turns.line-passed library w titles own global shared kinds k.n k.m k.ts k.gs i.p i.before end ls k.follows r.in-file r.end_is k.fine
-            own' global' shared' kinds' o.own o.global o.shared d.held d.own d.global d.shared t q in
-            subst (λ (j : ℕ). Walked library (behind_line w j ends o.own o.global o.shared) titles own' global' shared' kinds') (sym e)
-            (record { around = around_after l (around k.n k.m k.ts k.gs (in_body i.p i.before)); follows = f; sizes = new-sizes; verdict-is = k.on; globals-are = k.globals-on })
+            own' global' shared' kinds' o d.held d.own d.global d.shared t q in
+            subst (λ (j : ℕ). Walked library (behind_line w here j ends o) titles own' global' shared' kinds') (sym e)
+            (subst (λ (q : Kept). Walked library (behind_line w q (past_newline library end) ends o) titles own' global' shared' kinds') i.same
+            (record { around = around_after l (around k.n k.m k.ts k.gs (in_body i.p i.before)); follows = f; sizes = new-sizes; verdict-is = k.on; globals-are = k.globals-on }))

@@ -35,6 +35,9 @@ use Rattle.symbols.specs.Held.{Held}
 use Rattle.symbols.specs.Declared.{add_locals, add_globals}
 use Rattle.symbols.proofs.Kept.{line-more}
 use Rattle.prototypes.proofs.Parameters.{operation-there}
+use Rattle.collecting.specs.declared.Rows.{Rows as Counts}
+use Rattle.walking.specs.declared.Body.{Body as Kept}
+use Rattle.walking.specs.declared.Place.TheVariants.{Outer, Inner, Prototype as Before}
 use Rattle.walking.specs.declared.Walk.{Walk as Stand}
 use Rattle.walking.specs.Verdicts.{Shared}
 use Rattle.walking.specs.Walks.{Titled, Whole, part, Inside, Placed, Follows}
@@ -46,35 +49,11 @@ use Rattle.walking.proofs.Declarations as declarations
 
 -- a MACRO line
 abbrev pub behind_macro : Stand → ℕ → Stand
-behind_macro w next = record {
-  at = next;
-  lines = w.lines + 1;
-  macros = w.macros + 1;
-  titles = w.titles;
-  place = 1;
-  body = w.body;
-  parameters = w.parameters;
-  ended = w.ended;
-  own = w.own;
-  global = w.global;
-  shared = w.shared;
-}
+behind_macro w next = record { at = next; lines = w.lines + 1; macros = w.macros + 1; titles = w.titles; place = Before; rows = w.rows }
 
 -- another line outside definitions
 abbrev pub behind_other : Stand → ℕ → Stand
-behind_other w next = record {
-  at = next;
-  lines = w.lines + 1;
-  macros = w.macros;
-  titles = w.titles;
-  place = 0;
-  body = w.body;
-  parameters = w.parameters;
-  ended = w.ended;
-  own = w.own;
-  global = w.global;
-  shared = w.shared;
-}
+behind_other w next = record { at = next; lines = w.lines + 1; macros = w.macros; titles = w.titles; place = w.place; rows = w.rows }
 
 -- a prototype with so many parameters
 abbrev pub behind_prototype : Stand → ℕ → ℕ → Stand
@@ -83,45 +62,23 @@ behind_prototype w next count = record {
   lines = w.lines + 1;
   macros = w.macros;
   titles = w.titles + 1;
-  place = 2;
-  body = next;
-  parameters = count;
-  ended = false;
-  own = count;
-  global = 0;
-  shared = w.shared;
+  place = Inner (record { start = next; parameters = count; ended = false });
+  rows = record { own = count; global = 0; shared = w.rows.shared };
 }
 
 -- MEND, with so many rows in the tables
-abbrev pub behind_mend : Stand → ℕ → ℕ → ℕ → ℕ → Stand
-behind_mend w next o t s = record {
-  at = next;
-  lines = w.lines + 1;
-  macros = w.macros;
-  titles = w.titles;
-  place = 0;
-  body = w.body;
-  parameters = w.parameters;
-  ended = w.ended;
-  own = o;
-  global = t;
-  shared = s;
-}
+abbrev pub behind_mend : Stand → ℕ → Counts → Stand
+behind_mend w next r = record { at = next; lines = w.lines + 1; macros = w.macros; titles = w.titles; place = Outer; rows = r }
 
 -- another line of a body
-abbrev pub behind_line : Stand → ℕ → Bool → ℕ → ℕ → ℕ → Stand
-behind_line w next ends o t s = record {
+abbrev pub behind_line : Stand → Kept → ℕ → Bool → Counts → Stand
+behind_line w here next ends r = record {
   at = next;
   lines = w.lines + 1;
   macros = w.macros;
   titles = w.titles;
-  place = 2;
-  body = w.body;
-  parameters = w.parameters;
-  ended = w.ended || ends;
-  own = o;
-  global = t;
-  shared = s;
+  place = Inner (record { start = here.start; parameters = here.parameters; ended = here.ended || ends });
+  rows = r;
 }
 
 -- ---- every line
@@ -167,7 +124,7 @@ module _ (library : Bytes) (w : Stand) (titles own global shared kinds : Bytes) 
     titled = g.titled;
     globals-in = g.globals-in;
     few-globals = g.few-globals;
-    placed = subst (Placed library _ own global shared kinds gs) (sym (passed_over at_prototype outer e)) (refl, g.placed.1);
+    placed = subst (Placed library _ own global shared kinds gs) (sym (passed_over at_prototype outer e)) g.placed;
   }
 
 -- ---- a prototype
@@ -264,7 +221,7 @@ module _ (library : Bytes) (w : Stand) (titles own global shared kinds : Bytes) 
   nothing = let z : next - next ≡ 0 = omega arith in ap (λ (k : ℕ). take k (drop next library)) z
 
   pub prototype-passed : (titles' own' kinds' : Bytes) (r : ℕ) → titles' ≡ splice titles (w.titles * 8) (padded (operation_of l)) → 264 ≤ length titles
-      → Held (names_of l []) gs (take (r * 8) own') [] (take (w.shared * 8) shared) kinds' → r ≡ length (own_names (names_of l [])) → drop 64 kinds' ≡ drop 64 kinds
+      → Held (names_of l []) gs (take (r * 8) own') [] (take (w.rows.shared * 8) shared) kinds' → r ≡ length (own_names (names_of l [])) → drop 64 kinds' ≡ drop 64 kinds
       → Follows library (behind_prototype w next r) titles' own' global shared kinds' (around_after l (around n m ts gs at_prototype))
   unfolding around_after macros_after titles_after globals_after place_after
   prototype-passed titles' own' kinds' r e size held q same-kinds =
@@ -279,25 +236,28 @@ module _ (library : Bytes) (w : Stand) (titles own global shared kinds : Bytes) 
             (omega (arith, g.placed.1, g.few-macros, size));
         globals-in = record {
           listed = g.globals-in.listed;
-          numbered = ap (take w.shared) same-kinds ∙ g.globals-in.numbered;
+          numbered = ap (take w.rows.shared) same-kinds ∙ g.globals-in.numbered;
           counted = g.globals-in.counted;
         };
         few-globals = g.few-globals;
-        placed = record {
-          is_body = refl;
-          few-titles = omega (arith, g.placed.1);
-          starts = omega arith;
-          before-are = ap lines_of nothing ∙ no-lines;
-          ends-line = λ h. subst Whole (sym nothing) whole-nothing;
-          has_ended = none-ends;
-          held = held;
-          mine = sym q;
-          theirs = start-globals l;
-          parameters-are = sym (q ∙ many);
-          few-parameters = omega (arith, few-parameters l [] (stands n m ts gs l ls x), q, many);
-          few-locals = start-locals l;
-          once = start-once l;
-        };
+        placed = (
+          _,
+          record {
+            is_body = refl;
+            few-titles = omega (arith, g.placed.1);
+            starts = omega arith;
+            before-are = ap lines_of nothing ∙ no-lines;
+            ends-line = λ h. subst Whole (sym nothing) whole-nothing;
+            has_ended = none-ends;
+            held = held;
+            mine = sym q;
+            theirs = start-globals l;
+            parameters-are = sym (q ∙ many);
+            few-parameters = omega (arith, few-parameters l [] (stands n m ts gs l ls x), q, many);
+            few-locals = start-locals l;
+            once = start-once l;
+          },
+        );
       }
 
 -- ---- a line of a body
@@ -308,16 +268,16 @@ any-one-more test [] a e f = (λ i. e i || f i) ∙ sym (or-false (test a))
 any-one-more test (c ∷ s) a e f = (λ i. e i || f i) ∙ (or_assoc (test c) (any test s) (test a) ∙ ap (test c ||◌) (any-one-more test s a refl refl))
 
 module _ (library : Bytes) (w : Stand) (own global shared kinds : Bytes) (gs : List (Bytes × Set)) (p : Bytes) (before : List Bytes)
-    (b : Inside library w own global shared kinds gs p before) where
+    {here : Kept} (b : Inside library w here own global shared kinds gs p before) where
   abbrev names : Names
   names = names_of p before
 
-  pub own-are : w.own ≡ w.parameters + length (names_of p before).locals
+  pub own-are : w.rows.own ≡ here.parameters + length (names_of p before).locals
   unfolding own_names
   own-are = omega (arith, b.mine, b.parameters-are, length-append (parameter_names names) (firsts names.locals), length-firsts names.locals)
 
   -- each of the macro's globals is one of the library's
-  pub few-global : length gs ≤ global_limit → w.global ≤ global_limit
+  pub few-global : length gs ≤ global_limit → w.rows.global ≤ global_limit
   few-global h =
       let m = no_more (firsts names.globals) (firsts gs) b.once
       (λ n e. place-known n (firsts gs) (let k = known-place n (firsts names.globals) e in
@@ -334,25 +294,28 @@ module _ (library : Bytes) (w : Stand) (titles own global shared kinds : Bytes) 
   abbrev next : ℕ
   next = past_newline library end
 
-  abbrev b : Inside library w own global shared kinds gs p before
-  b = g.placed
+  abbrev pub here : Kept
+  here = g.placed.0
 
-  pub room-own : w.own + length (locals_on l) ≤ 64
+  abbrev b : Inside library w here own global shared kinds gs p before
+  b = g.placed.1
+
+  pub room-own : w.rows.own + length (locals_on l) ≤ 64
   room-own =
       omega (arith, own-are library w own global shared kinds gs p before b, b.few-parameters, declarations.few-locals n m ts gs p before l ls x b.few-locals)
 
   pub more-globals : length (with_globals gs (globals_on l)) ≤ global_limit
   more-globals = declarations.few-globals n m ts gs p before l ls x (omega (arith, g.globals-in.counted, g.few-globals))
 
-  module _ (own' global' shared' kinds' : Bytes) (o t s : ℕ)
-      (held : Held (add_globals (add_locals (names_of p before) (locals_on l)) (globals_on l)) (with_globals gs (globals_on l)) (take (o * 8) own') (take (t * 8) global') (take (s * 8) shared') kinds')
-      (owns : length (own_names (add_globals (add_locals (names_of p before) (locals_on l)) (globals_on l))) ≡ o)
-      (globals-are : length (add_globals (add_locals (names_of p before) (locals_on l)) (globals_on l)).globals ≡ t) (shares : length (with_globals gs (globals_on l)) ≡ s) where
-    shared-in : Shared (with_globals gs (globals_on l)) s shared' kinds'
+  module _ (own' global' shared' kinds' : Bytes) (r : Counts)
+      (held : Held (add_globals (add_locals (names_of p before) (locals_on l)) (globals_on l)) (with_globals gs (globals_on l)) (take (r.own * 8) own') (take (r.global * 8) global') (take (r.shared * 8) shared') kinds')
+      (owns : length (own_names (add_globals (add_locals (names_of p before) (locals_on l)) (globals_on l))) ≡ r.own)
+      (globals-are : length (add_globals (add_locals (names_of p before) (locals_on l)) (globals_on l)).globals ≡ r.global) (shares : length (with_globals gs (globals_on l)) ≡ r.shared) where
+    shared-in : Shared (with_globals gs (globals_on l)) r.shared shared' kinds'
     shared-in = record { listed = held.ours; numbered = ap (λ (k : ℕ). take k (drop 64 kinds')) (sym shares) ∙ held.our-kinds; counted = shares }
 
     pub mend-passed : is_mend l ≡ true
-        → Follows library (behind_mend w (past_newline library end) o t s) titles own' global' shared' kinds' (around_after l (around n m ts gs (in_body p before)))
+        → Follows library (behind_mend w (past_newline library end) r) titles own' global' shared' kinds' (around_after l (around n m ts gs (in_body p before)))
     unfolding around_after macros_after titles_after globals_after place_after
     mend-passed q = record {
       inside = (past-within library w.at end in-file e).1;
@@ -375,12 +338,12 @@ module _ (library : Bytes) (w : Stand) (titles own global shared kinds : Bytes) 
     unfolding add_globals add_locals
     once_more = ap are_distinct (firsts-append (names_of p before).globals (globals_on l)) ∙ declarations.once_more n m ts gs p before l ls x b.once
 
-    same-parameters : length (parameter_names (add_globals (add_locals (names_of p before) (locals_on l)) (globals_on l))) ≡ w.parameters
+    same-parameters : length (parameter_names (add_globals (add_locals (names_of p before) (locals_on l)) (globals_on l))) ≡ here.parameters
     unfolding add_globals add_locals parameter_names
     same-parameters = b.parameters-are
 
     pub line-passed : is_mend l ≡ false → {ends : Bool} → ends ≡ ends_declarations l
-        → Follows library (behind_line w (past_newline library end) ends o t s) titles own' global' shared' kinds' (around_after l (around n m ts gs (in_body p before)))
+        → Follows library (behind_line w here (past_newline library end) ends r) titles own' global' shared' kinds' (around_after l (around n m ts gs (in_body p before)))
     unfolding around_after macros_after titles_after globals_after place_after
     line-passed q {ends} d =
         let z = past-within library w.at end in-file e in
@@ -395,19 +358,22 @@ module _ (library : Bytes) (w : Stand) (titles own global shared kinds : Bytes) 
           titled = g.titled;
           globals-in = shared-in;
           few-globals = omega (arith, shares, more-globals);
-          placed = subst (Placed library _ own' global' shared' kinds' (with_globals gs (globals_on l))) (sym (passed_over outer (in_body p (before ++ (l ∷ []))) q)) (record {
-            is_body = refl;
-            few-titles = b.few-titles;
-            starts = omega (arith, b.starts, z.0);
-            before-are = grown library w.body w.at end in-file b.starts e whole ∙ ap (◌++ (l ∷ [])) b.before-are;
-            ends-line = whole-next library w.body w.at end in-file b.starts e whole;
-            has_ended = any-one-more ends_declarations before l b.has_ended d;
-            held = subst (λ (k : Names). Held k (with_globals gs (globals_on l)) (take (o * 8) own') (take (t * 8) global') (take (s * 8) shared') kinds') new held;
-            mine = subst (λ (k : Names). length (own_names k) ≡ o) new owns;
-            theirs = subst (λ (k : Names). length k.globals ≡ t) new globals-are;
-            parameters-are = subst (λ (k : Names). length (parameter_names k) ≡ w.parameters) new same-parameters;
-            few-parameters = b.few-parameters;
-            few-locals = subst (λ (k : Names). length k.locals ≤ local_limit) new more-locals;
-            once = subst (λ (k : Names). are_distinct (firsts k.globals) ≡ true) new once_more;
-          });
+          placed = subst (Placed library _ own' global' shared' kinds' (with_globals gs (globals_on l))) (sym (passed_over outer (in_body p (before ++ (l ∷ []))) q)) (
+            _,
+            record {
+              is_body = refl;
+              few-titles = b.few-titles;
+              starts = omega (arith, b.starts, z.0);
+              before-are = grown library here.start w.at end in-file b.starts e whole ∙ ap (◌++ (l ∷ [])) b.before-are;
+              ends-line = whole-next library here.start w.at end in-file b.starts e whole;
+              has_ended = any-one-more ends_declarations before l b.has_ended d;
+              held = subst (λ (k : Names). Held k (with_globals gs (globals_on l)) (take (r.own * 8) own') (take (r.global * 8) global') (take (r.shared * 8) shared') kinds') new held;
+              mine = subst (λ (k : Names). length (own_names k) ≡ r.own) new owns;
+              theirs = subst (λ (k : Names). length k.globals ≡ r.global) new globals-are;
+              parameters-are = subst (λ (k : Names). length (parameter_names k) ≡ here.parameters) new same-parameters;
+              few-parameters = b.few-parameters;
+              few-locals = subst (λ (k : Names). length k.locals ≤ local_limit) new more-locals;
+              once = subst (λ (k : Names). are_distinct (firsts k.globals) ≡ true) new once_more;
+            },
+          );
         }

@@ -13,6 +13,8 @@ use Rattle.lines.specs.Ends.{line_end}
 use Rattle.names.specs.Names.{titles_in, padded}
 use Rattle.tables.specs.Titles.{fits_row}
 use Rattle.symbols.specs.Held.{Held}
+use Rattle.walking.specs.declared.Body.{Body as Kept}
+use Rattle.walking.specs.declared.Place.TheVariants.{Outer, Prototype, Inner}
 use Rattle.walking.specs.declared.Walk.{Walk as Stand}
 use Rattle.walking.specs.Verdicts.{fault_number, globals_from, globals_at, Shared}
 
@@ -30,26 +32,26 @@ Whole s = (t : Bytes) → lines_of (s ++ t) ≡ lines_of s ++ lines_of t
 abbrev pub part : Bytes → ℕ → ℕ → Bytes
 part s from to = take (to - from) (drop from s)
 
--- in the body of a macro with prototype `p`, behind the lines `before`
-pub record Inside (library : Bytes) (w : Stand) (own global shared kinds : Bytes) (globals : List (Bytes × Set)) (p : Bytes) (before : List Bytes) : Type 0 where
-  pub is_body : w.place ≡ 2
+-- in the body of a macro with prototype `p`, behind the lines `before`, of which the walk has `here`
+pub record Inside (library : Bytes) (w : Stand) (here : Kept) (own global shared kinds : Bytes) (globals : List (Bytes × Set)) (p : Bytes) (before : List Bytes) : Type 0 where
+  pub is_body : w.place ≡ Inner here
   pub few-titles : w.titles ≤ w.macros
-  pub starts : w.body ≤ w.at
-  pub before-are : lines_of (part library w.body w.at) ≡ before
-  pub ends-line : w.at < length library → Whole (part library w.body w.at)
-  pub has_ended : w.ended ≡ any ends_declarations before
-  pub held : Held (names_of p before) globals (take (w.own * 8) own) (take (w.global * 8) global) (take (w.shared * 8) shared) kinds
-  pub mine : length (own_names (names_of p before)) ≡ w.own
-  pub theirs : length (names_of p before).globals ≡ w.global
-  pub parameters-are : length (parameter_names (names_of p before)) ≡ w.parameters
-  pub few-parameters : w.parameters ≤ parameter_limit
+  pub starts : here.start ≤ w.at
+  pub before-are : lines_of (part library here.start w.at) ≡ before
+  pub ends-line : w.at < length library → Whole (part library here.start w.at)
+  pub has_ended : here.ended ≡ any ends_declarations before
+  pub held : Held (names_of p before) globals (take (w.rows.own * 8) own) (take (w.rows.global * 8) global) (take (w.rows.shared * 8) shared) kinds
+  pub mine : length (own_names (names_of p before)) ≡ w.rows.own
+  pub theirs : length (names_of p before).globals ≡ w.rows.global
+  pub parameters-are : length (parameter_names (names_of p before)) ≡ here.parameters
+  pub few-parameters : here.parameters ≤ parameter_limit
   pub few-locals : length (names_of p before).locals ≤ local_limit
   pub once : are_distinct (firsts (names_of p before).globals) ≡ true
 
 abbrev pub Placed : Bytes → Stand → Bytes → Bytes → Bytes → Bytes → List (Bytes × Set) → Place → Type 0
-Placed library w own global shared kinds globals outer = (w.place ≡ 0) × (w.titles ≤ w.macros)
-Placed library w own global shared kinds globals at_prototype = (w.place ≡ 1) × (w.titles < w.macros)
-Placed library w own global shared kinds globals (in_body p before) = Inside library w own global shared kinds globals p before
+Placed library w own global shared kinds globals outer = (w.place ≡ Outer) × (w.titles ≤ w.macros)
+Placed library w own global shared kinds globals at_prototype = (w.place ≡ Prototype) × (w.titles < w.macros)
+Placed library w own global shared kinds globals (in_body p before) = (here : Kept) × Inside library w here own global shared kinds globals p before
 
 -- the walk and its tables say what `a` says
 pub record Follows (library : Bytes) (w : Stand) (titles own global shared kinds : Bytes) (a : Around) : Type 0 where
@@ -59,8 +61,8 @@ pub record Follows (library : Bytes) (w : Stand) (titles own global shared kinds
   pub few-lines : w.lines ≤ library_limit
   pub few-macros : w.macros ≤ macro_limit
   pub titled : Titled a.titles w.titles titles
-  pub globals-in : Shared a.globals w.shared shared kinds
-  pub few-globals : w.shared ≤ global_limit
+  pub globals-in : Shared a.globals w.rows.shared shared kinds
+  pub few-globals : w.rows.shared ≤ global_limit
   pub placed : Placed library w own global shared kinds a.globals a.place
 
 -- so many bytes the tables have

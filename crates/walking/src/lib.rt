@@ -3,34 +3,65 @@
 
 ghost use Rattle.std.specs.Prelude.{◌≡◌, ◌+◌, ◌-◌, ◌≤◌, length, take, drop};
 ghost use Rattle.rules.specs.Fields.{lines_of};
-ghost use Rattle.rules.specs.Faults.{Around, ends_declarations, verdict};
+ghost use Rattle.rules.specs.Faults.{Around, at_statement, ends_declarations, verdict};
+ghost use Rattle.kinds.specs.Kinds.{statement_by};
+ghost use Rattle.refusals.specs.Numbers.{number_by};
 ghost use Rattle.labels.specs.Searches.{past_newline};
 ghost use Rattle.walking.specs.Verdicts.{told, fault_number, own_number, Lists};
 ghost use Rattle.walking.specs.Walks.{Follows, Sizes, Walked, AtLine, Ready};
 
-// Where a walk stands: at the line that starts at `at`, with so many lines, MACRO lines and macros' names before it; outside definitions (place 0), at a
-// prototype (1) or in a body (2). In a body: where the body starts, how many parameters the macro has, and whether its declarations are over. Then how many
-// rows the tables have: of own names, of the names of the macro's GBL statements, and of the library's globals.
+use checking::{Lines, Tables};
+use collecting::Rows;
+use kinds::Word;
+use names::Names;
+use refusals::{Fault, Refused};
+
+// What is known in a body: where it starts, how many parameters the macro has, and whether its declarations are over.
+#[derive(Clone, Copy)]
+pub struct Body {
+    pub start: usize,
+    pub parameters: usize,
+    pub ended: bool,
+}
+
+// Where a line stands: outside definitions, where a prototype should stand, or in a body.
+#[derive(Clone, Copy)]
+pub enum Place {
+    Outer,
+    Prototype,
+    Inner(Body),
+}
+
+// Where a walk stands: at the line that starts at `at`, with so many lines, MACRO lines and macros' names before it, in its place; and how many rows the tables
+// of names have.
 #[derive(Clone, Copy)]
 pub struct Walk {
     pub at: usize,
     pub lines: usize,
     pub macros: usize,
     pub titles: usize,
-    pub place: u8,
-    pub body: usize,
-    pub parameters: usize,
-    pub ended: bool,
-    pub own: usize,
-    pub global: usize,
-    pub shared: usize,
+    pub place: Place,
+    pub rows: Rows,
 }
 
-// What the check of a library answers.
-#[derive(Clone, Copy)]
-pub enum Checked {
-    Accepted { macros: usize, globals: usize },
-    Faulty { number: u8, line: usize },
+// Whether no declaration may stand behind a statement with this word.
+#[tactic(auto, unfolding(rules::specs::Faults::at_statement))]
+fn is_over(word: Option<Word>) -> bool
+    ensures { result ≡ at_statement (statement_by word) }
+{
+    match word {
+        Some(Word::Macro) => false,
+        Some(Word::Mend) => true,
+        Some(Word::Mexit) => true,
+        Some(Word::Lcl(_)) => false,
+        Some(Word::Gbl(_)) => false,
+        Some(Word::Set(_)) => true,
+        Some(Word::Aif) => true,
+        Some(Word::Ago) => true,
+        Some(Word::Anop) => true,
+        Some(Word::Actr) => true,
+        None => true,
+    }
 }
 
 // Whether no declaration may stand behind the line.
@@ -39,8 +70,7 @@ fn ends_declarations(line: &[u8]) -> bool
 {
     let remark = statements::is_remark(line);
     let operation = statements::operation_of(line);
-    let word = words::word(operation);
-    !remark & ((word == 1) | ((word == 2) | (8 < word)))
+    !remark & is_over(words::word(operation))
 }
 
 // The walk behind the line that ends at `end` and has no fault; what the line declares is in the tables then.
@@ -61,140 +91,123 @@ fn pass(
     let next = labels::past_newline(library, end);
     let at = walk.at;
     let line = &library[at..end];
-    if walk.place == 0 {
-        if statements::is_macro(line) {
-            return Walk {
+    let lines = walk.lines + 1;
+    match walk.place {
+        Place::Outer => {
+            if statements::is_macro(line) {
+                return Walk {
+                    at: next,
+                    lines,
+                    macros: walk.macros + 1,
+                    place: Place::Prototype,
+                    ..walk
+                };
+            }
+            Walk {
                 at: next,
-                lines: walk.lines + 1,
-                macros: walk.macros + 1,
-                titles: walk.titles,
-                place: 1,
-                body: walk.body,
-                parameters: walk.parameters,
-                ended: walk.ended,
-                own: walk.own,
-                global: walk.global,
-                shared: walk.shared,
-            };
+                lines,
+                ..walk
+            }
         }
-        return Walk {
-            at: next,
-            lines: walk.lines + 1,
-            macros: walk.macros,
-            titles: walk.titles,
-            place: 0,
-            body: walk.body,
-            parameters: walk.parameters,
-            ended: walk.ended,
-            own: walk.own,
-            global: walk.global,
-            shared: walk.shared,
-        };
-    }
-    if walk.place == 1 {
-        let operation = statements::operation_of(line);
-        tables::entitle(titles, walk.titles, operation);
-        let parameters = collecting::declare_prototype(line, own, kinds);
-        return Walk {
-            at: next,
-            lines: walk.lines + 1,
-            macros: walk.macros,
-            titles: walk.titles + 1,
-            place: 2,
-            body: next,
-            parameters: parameters,
-            ended: false,
-            own: parameters,
-            global: 0,
-            shared: walk.shared,
-        };
-    }
-    let before = collecting::Rows {
-        own: walk.own,
-        global: walk.global,
-        shared: walk.shared,
-    };
-    let rows = collecting::declare_line(line, before, own, global, shared, kinds);
-    if statements::is_mend(line) {
-        return Walk {
-            at: next,
-            lines: walk.lines + 1,
-            macros: walk.macros,
-            titles: walk.titles,
-            place: 0,
-            body: walk.body,
-            parameters: walk.parameters,
-            ended: walk.ended,
-            own: rows.own,
-            global: rows.global,
-            shared: rows.shared,
-        };
-    }
-    let ends = ends_declarations(line);
-    Walk {
-        at: next,
-        lines: walk.lines + 1,
-        macros: walk.macros,
-        titles: walk.titles,
-        place: 2,
-        body: walk.body,
-        parameters: walk.parameters,
-        ended: walk.ended | ends,
-        own: rows.own,
-        global: rows.global,
-        shared: rows.shared,
+        Place::Prototype => {
+            let operation = statements::operation_of(line);
+            tables::entitle(titles, walk.titles, operation);
+            let parameters = collecting::declare_prototype(line, own, kinds);
+            Walk {
+                at: next,
+                lines,
+                titles: walk.titles + 1,
+                place: Place::Inner(Body {
+                    start: next,
+                    parameters,
+                    ended: false,
+                }),
+                rows: Rows {
+                    own: parameters,
+                    global: 0,
+                    ..walk.rows
+                },
+                ..walk
+            }
+        }
+        Place::Inner(body) => {
+            let rows = collecting::declare_line(line, walk.rows, own, global, shared, kinds);
+            if statements::is_mend(line) {
+                return Walk {
+                    at: next,
+                    lines,
+                    place: Place::Outer,
+                    rows,
+                    ..walk
+                };
+            }
+            let ends = ends_declarations(line);
+            Walk {
+                at: next,
+                lines,
+                place: Place::Inner(Body {
+                    ended: body.ended | ends,
+                    ..body
+                }),
+                rows,
+                ..walk
+            }
+        }
     }
 }
 
-// The lowest number that the line up to `end` has, the limit of lines aside; 0 where it has none. `code` is a buffer for the codes of its fields.
+// The refusal with the lowest number that the line up to `end` has, the limit of lines aside, where it has one. `code` is a buffer for the codes of its fields.
 fn own_fault(
     library: &[u8],
     walk: Walk,
     end: usize,
     titles: &[u8],
-    own: &[u8],
-    global: &[u8],
-    shared: &[u8],
-    kinds: &[u8],
+    tables: Tables,
     code: &mut [u8],
-) -> u8
-    requires { AtLine library.now walk end titles.now own.now global.now shared.now kinds.now × (71 ≤ length code.old) }
-    ensures { (a : Around) → Follows library.now walk titles.now own.now global.now shared.now kinds.now a → result ≡ own_number a (take (end - walk.at) (drop walk.at library.now)) (lines_of (drop (end + 1) library.now)) }
+) -> Option<Fault>
+    requires { AtLine library.now walk end titles.now tables.names.own.now tables.names.global.now tables.names.shared.now tables.kinds.now × (71 ≤ length code.old) }
+    ensures { (a : Around) → Follows library.now walk titles.now tables.entry.names.own.now tables.entry.names.global.now tables.entry.names.shared.now tables.entry.kinds.now a → number_by result ≡ own_number a (take (end - walk.at) (drop walk.at library.now)) (lines_of (drop (end + 1) library.now)) }
 {
     let at = walk.at;
     let line = &library[at..end];
-    if walk.place == 0 {
-        return prototypes::outer_fault(line, walk.macros);
+    match walk.place {
+        Place::Outer => prototypes::outer_fault(line, walk.macros),
+        Place::Prototype => {
+            let names = walk.titles * 8;
+            prototypes::prototype_fault(line, &titles[0..names])
+        }
+        Place::Inner(body) => {
+            let start = body.start;
+            let before = &library[start..at];
+            let from = &library[at..];
+            let locals = walk.rows.own - body.parameters;
+            let mine = walk.rows.own * 8;
+            let theirs = walk.rows.global * 8;
+            let ours = walk.rows.shared * 8;
+            let lines = Lines { before, from };
+            let names = Names {
+                own: &tables.names.own[0..mine],
+                global: &tables.names.global[0..theirs],
+                shared: &tables.names.shared[0..ours],
+            };
+            let kinds = tables.kinds;
+            faults::body_fault(
+                line,
+                lines,
+                body.ended,
+                locals,
+                Tables { names, kinds },
+                code,
+            )
+        }
     }
-    if walk.place == 1 {
-        let names = walk.titles * 8;
-        return prototypes::prototype_fault(line, &titles[0..names]);
-    }
-    let body = walk.body;
-    let before = &library[body..at];
-    let from = &library[at..];
-    let locals = walk.own - walk.parameters;
-    let mine = walk.own * 8;
-    let theirs = walk.global * 8;
-    let ours = walk.shared * 8;
-    faults::body_fault(
-        line,
-        before,
-        from,
-        walk.ended,
-        locals,
-        &own[0..mine],
-        &global[0..theirs],
-        &shared[0..ours],
-        kinds,
-        code,
-    )
 }
 
 // How many lines a library may have.
 const LINES: usize = 512;
 
-// The lowest number that the line up to `end` has, the limit of lines being one of the tests; 0 where it has none.
+// The refusal with the lowest number that the line up to `end` has, the limit of lines being one of the tests, where it has one.
+// Four slices and no `Tables`: a struct of reborrows made in `check`'s loop is refused, since its lifetime would meet that of the next turn's.
 fn fault(
     library: &[u8],
     walk: Walk,
@@ -205,21 +218,28 @@ fn fault(
     shared: &[u8],
     kinds: &[u8],
     code: &mut [u8],
-) -> u8
+) -> Option<Fault>
     requires { AtLine library.now walk end titles.now own.now global.now shared.now kinds.now × (71 ≤ length code.old) }
-    ensures { (a : Around) → Follows library.now walk titles.now own.now global.now shared.now kinds.now a → result ≡ fault_number a (take (end - walk.at) (drop walk.at library.now)) (lines_of (drop (end + 1) library.now)) }
+    ensures { (a : Around) → Follows library.now walk titles.now own.now global.now shared.now kinds.now a → number_by result ≡ fault_number a (take (end - walk.at) (drop walk.at library.now)) (lines_of (drop (end + 1) library.now)) }
 {
-    let number = own_fault(library, walk, end, titles, own, global, shared, kinds, code);
-    if number != 0 {
-        return number;
+    let names = Names {
+        own,
+        global,
+        shared,
+    };
+    match own_fault(library, walk, end, titles, Tables { names, kinds }, code) {
+        Some(found) => Some(found),
+        None => {
+            if LINES <= walk.lines {
+                Some(Fault::OverLimit)
+            } else {
+                None
+            }
+        }
     }
-    if LINES <= walk.lines {
-        return 5;
-    }
-    0
 }
 
-// Whether a library is accepted; else its lowest faulty line, with the lowest number on it. The globals of an accepted library are in the tables then.
+// How many globals an accepted library has, which stand in the tables then; else its lowest faulty line, with the refusal that has the lowest number on it.
 pub fn check(
     library: &[u8],
     titles: &mut [u8],
@@ -228,7 +248,7 @@ pub fn check(
     shared: &mut [u8],
     kinds: &mut [u8],
     code: &mut [u8],
-) -> Checked
+) -> Result<usize, Refused>
     requires { Sizes titles.old own.old global.old shared.old kinds.old × (71 ≤ length code.old) }
     ensures result_value { told result ≡ verdict library.now }
     ensures lists { Lists result library.now shared.new kinds.new }
@@ -238,33 +258,35 @@ pub fn check(
         lines: 0,
         macros: 0,
         titles: 0,
-        place: 0,
-        body: 0,
-        parameters: 0,
-        ended: false,
-        own: 0,
-        global: 0,
-        shared: 0,
+        place: Place::Outer,
+        rows: Rows {
+            own: 0,
+            global: 0,
+            shared: 0,
+        },
     };
+    // By place: a test of a line needs the lines of its body before it, and those behind it.
     while walk.at < library.len() {
         let end = lines::line_end(library, walk.at);
-        let number = fault(library, walk, end, titles, own, global, shared, kinds, code);
-        if number != 0 {
-            return Checked::Faulty {
-                number: number,
-                line: walk.lines + 1,
-            };
+        match fault(library, walk, end, titles, own, global, shared, kinds, code) {
+            Some(found) => {
+                return Err(Refused {
+                    fault: found,
+                    line: walk.lines + 1,
+                });
+            }
+            None => walk = pass(library, walk, end, titles, own, global, shared, kinds),
         }
-        walk = pass(library, walk, end, titles, own, global, shared, kinds);
     }
-    if walk.place == 0 {
-        return Checked::Accepted {
-            macros: walk.macros,
-            globals: walk.shared,
-        };
-    }
-    Checked::Faulty {
-        number: 2,
-        line: walk.lines + 1,
+    match walk.place {
+        Place::Outer => Ok(walk.rows.shared),
+        Place::Prototype => Err(Refused {
+            fault: Fault::OutOfPlace,
+            line: walk.lines + 1,
+        }),
+        Place::Inner(_) => Err(Refused {
+            fault: Fault::OutOfPlace,
+            line: walk.lines + 1,
+        }),
     }
 }

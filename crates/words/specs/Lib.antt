@@ -1,1 +1,2 @@
 pub mod Trimmed
+pub mod Places

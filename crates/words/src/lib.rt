@@ -4,62 +4,50 @@
 ghost use Rattle.std.specs.Prelude.{◌≡◌};
 ghost use Rattle.text.specs.Bytes.{same};
 ghost use Rattle.text.specs.Words.{word_number};
+ghost use Rattle.rules.specs.Statement.{statement_of};
+ghost use Rattle.kinds.specs.Kinds.{statement_by};
 ghost use Rattle.words.specs.Trimmed.{trimmed};
+ghost use Rattle.words.specs.Places.{place_of};
+
+use kinds::{Set, Word};
 
 // The sixteen words in 01's order, each in eight bytes, blanks behind it.
-const WORDS: [[u8; 8]; 16] = [
-    *b"MACRO   ",
-    *b"MEND    ",
-    *b"MEXIT   ",
-    *b"LCLA    ",
-    *b"LCLB    ",
-    *b"LCLC    ",
-    *b"GBLA    ",
-    *b"GBLB    ",
-    *b"GBLC    ",
-    *b"SETA    ",
-    *b"SETB    ",
-    *b"SETC    ",
-    *b"AIF     ",
-    *b"AGO     ",
-    *b"ANOP    ",
-    *b"ACTR    ",
+const WORDS: [([u8; 8], Word); 16] = [
+    (*b"MACRO   ", Word::Macro),
+    (*b"MEND    ", Word::Mend),
+    (*b"MEXIT   ", Word::Mexit),
+    (*b"LCLA    ", Word::Lcl(Set::A)),
+    (*b"LCLB    ", Word::Lcl(Set::B)),
+    (*b"LCLC    ", Word::Lcl(Set::C)),
+    (*b"GBLA    ", Word::Gbl(Set::A)),
+    (*b"GBLB    ", Word::Gbl(Set::B)),
+    (*b"GBLC    ", Word::Gbl(Set::C)),
+    (*b"SETA    ", Word::Set(Set::A)),
+    (*b"SETB    ", Word::Set(Set::B)),
+    (*b"SETC    ", Word::Set(Set::C)),
+    (*b"AIF     ", Word::Aif),
+    (*b"AGO     ", Word::Ago),
+    (*b"ANOP    ", Word::Anop),
+    (*b"ACTR    ", Word::Actr),
 ];
 
 // Whether the word in the row, the blanks behind it left out, is exactly `op`.
 fn spells(row: [u8; 8], op: &[u8]) -> bool
     ensures { result ≡ same (trimmed row) op.now }
 {
-    if 8 < op.len() {
-        return false;
-    }
-    let mut i = 0;
-    while i < op.len() {
-        if row[i] == b' ' {
-            return false;
-        }
-        if row[i] != op[i] {
-            return false;
-        }
-        i += 1;
-    }
-    if i == 8 {
-        return true;
-    }
-    row[i] == b' '
+    let size = row.iter().position(|&b| b == b' ').unwrap_or(8);
+    &row[..size] == op
 }
 
-// The place of the language word that `op` is among the sixteen, counted from 0; 16 where it is none.
-pub fn word(op: &[u8]) -> usize
-    ensures { result ≡ word_number op.now }
+// The language word that `op` is, where it is one.
+pub fn word(op: &[u8]) -> Option<Word>
+    ensures number { place_of result ≡ word_number op.now }
+    ensures statement { statement_by result ≡ statement_of op.now }
 {
-    let mut k = 0;
-    while k < 16 {
-        let row = WORDS[k];
+    for (row, word) in WORDS {
         if spells(row, op) {
-            return k;
+            return Some(word);
         }
-        k += 1;
     }
-    k
+    None
 }

@@ -12,6 +12,7 @@ use lib.IntN.{ℤ, pos, negsuc, ◌-ℤ◌}
 use borrow.Author.Tests.{ltb-true, ltb-false, ne_eqb}
 use Rattle.rules.proofs.Choices.{by}
 use lib.Signed.{mag}
+use mir.Val.{bool_byte}
 use Rattle.text.specs.Bytes.{Bytes}
 use Rattle.rules.specs.Choice.{choose}
 use Rattle.rules.specs.Statement.{Set, set_a, set_b, set_c}
@@ -104,6 +105,11 @@ module _ (w : Bytes) (k : ℕ) where
 pub string-written : (w : Bytes) (at k : ℕ) (s : Bytes) → at ≡ k * 256 → splice (set w at (length s)) (at + 1) s ≡ splice w (cell_size * k) (string_cell s)
 unfolding string_cell
 string-written w at k s e = let z : at ≡ cell_size * k = omega arith in splice-cons w at (length s) s ∙ ap (λ i. splice w i (length s ∷ s)) z
+
+pub truth_byte : (t : Bool) → choose t 1 0 ≡ bool_byte t
+unfolding choose
+truth_byte true = refl
+truth_byte false = refl
 
 pub truth-written : (w : Bytes) (at k b : ℕ) (t : Bool) → at ≡ k * 256 → choose t 1 0 ≡ b → set w at b ≡ splice w (cell_size * k) (truth_cell t)
 unfolding truth_cell splice

@@ -1,5 +1,5 @@
 -- What the test of good form leaves in the index: where each line of each macro stands in the deck, what a call needs to know of a macro, and the titles.
-use Rattle.std.specs.Prelude.{ℕ, ◌+◌, ◌*◌, ◌<◌, ◌≡◌, map, ltb, length, get_or}
+use Rattle.std.specs.Prelude.{ℕ, Option, Some, None, ◌+◌, ◌*◌, ◌<◌, ◌≡◌, map, ltb, length, get_or}
 use Rattle.text.specs.Bytes.{Bytes}
 use Rattle.rules.specs.Choice.{choose}
 use Rattle.deck.specs.Slots.{DeckMacro, Deck, no_macro, no_line, parameters}
@@ -9,8 +9,6 @@ use Rattle.spans.specs.Spans.{part_of}
 use Rattle.deck_reading.specs.Reading.{two_at, kinds_at, keyword_at, line_at}
 use Rattle.deck_reading.specs.Heads.{things_from, keyword_end, globals_place, macros_place}
 use Rattle.expand_levels.specs.declared.Level.{Level}
-use Rattle.work_frames.specs.declared.Found.{Found}
-use Rattle.work_frames.specs.declared.Found.TheVariants.{At, Behind}
 use Rattle.work_frames.specs.declared.Frame.{Frame}
 
 unfoldable pub four_at : Bytes → ℕ → ℕ
@@ -42,9 +40,9 @@ parameter_count_in index k = get_or index (2059 + 16 * k) 0
 unfoldable pub locals_in : Bytes → ℕ → ℕ
 locals_in index k = four_at index (2060 + 16 * k)
 
--- where line i of macro k stands in the deck
-unfoldable pub found_in : Bytes → ℕ → ℕ → Found
-found_in index k i = choose (ltb i (count_in index k)) (At (four_at index (4 * (first_in index k + i)))) Behind
+-- where line i of macro k stands in the deck, if there is one
+unfoldable pub found_in : Bytes → ℕ → ℕ → Option ℕ
+found_in index k i = choose (ltb i (count_in index k)) (Some (four_at index (4 * (first_in index k + i)))) None
 
 -- how many macros a deck has: it says so behind the kinds of its globals
 unfoldable pub macros_in : Bytes → ℕ

@@ -2,10 +2,12 @@
 use Prim.Native.Nat.{ℕ, suc, ◌+◌, ◌-◌}
 use native.Mathlib.Omega.{arith}
 use mathlib.Core.Path.{◌≡◌, refl, ap, sym, ◌∙◌}
-use mathlib.Core.Bool.{Bool}
+use mathlib.Core.Bool.{Bool, true, false}
 use mathlib.Core.List.{List, [], ◌∷◌, ◌++◌, map}
 use lib.ListN.{length, set, length-append, length-map}
 use Rattle.text.specs.Bytes.{Bytes}
+use mir.Val.{bool_byte}
+use Rattle.rules.specs.Choice.{choose}
 use Rattle.rules.specs.Lexemes.{Lex}
 use Rattle.rules.specs.Statement.{Set, set_a, set_b, set_c}
 use Rattle.rules.specs.Grammar.{symbol}
@@ -63,6 +65,13 @@ module _ (s : Bytes) (ks : List Set) (is : s ≡ numbers ks) where
   pub kinds-end : (at : ℕ) → at + 2 + length s ≡ at + length ((list_of kind).put ks)
   unfolding two
   kinds-end at = let e : suc (suc (length (lessened s))) ≡ length ((list_of kind).put ks) = ap length kinds-bytes in omega (arith, lessened-length s, e)
+
+-- ---- a flag
+
+pub flag-byte : (b : Bool) → bool_byte b ≡ flag_code b
+unfolding flag_code choose
+flag-byte true = refl
+flag-byte false = refl
 
 -- ---- a macro's title
 

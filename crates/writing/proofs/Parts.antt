@@ -1,19 +1,17 @@
 -- A line's bytes by cases, as the code tests them; and a byte written before the others. Assumes nothing.
-use Prim.Native.Nat.{ℕ, suc, ◌+◌, ◌-◌, ◌≤◌, ◌<◌}
+use Prim.Native.Nat.{ℕ, suc, ◌+◌, ◌-◌, ◌≤◌}
 use native.Mathlib.Omega.{arith}
 use mathlib.Core.Path.{◌≡◌, refl, ap, sym, ◌∙◌}
-use mathlib.Core.List.{[], ◌∷◌, ◌++◌}
-use lib.Dec.{eqb, ltb}
+use mathlib.Core.List.{[], ◌∷◌}
+use mathlib.Core.Logic.{◌⊎◌, inl, inr}
 use lib.ListN.{length, take, drop, set, length-take, length-drop}
-use borrow.Author.Tests.{lt-ltb, le-ltb, ne_eqb}
 use Rattle.text.specs.Bytes.{Bytes}
-use Rattle.rules.specs.Choice.{choose}
-use Rattle.rules.proofs.Choices.{chosen, passed_over, either}
-use Rattle.deck.specs.Coding.{two}
+use Rattle.kinds.specs.declared.Does.{Does}
+use Rattle.kinds.specs.declared.Does.TheVariants.{Passes, Ends, Exits}
 use Rattle.lent.specs.Splice.{splice}
 use Rattle.lent.proofs.Writes.{splice-cons}
 use Rattle.shapes.specs.Shapes.{part}
-use Rattle.writing.specs.Bytes.{counted, line_bytes, behind_first}
+use Rattle.writing.specs.Bytes.{does_code, behind_first, line_bytes}
 
 -- parts are no longer than the whole
 pub front-short : (k : ℕ) (s : Bytes) → length (take k s) ≤ length s
@@ -23,58 +21,21 @@ pub part-short : (s : Bytes) (from to : ℕ) → length (part s from to) ≤ len
 unfolding part
 part-short s from to = omega (arith, length-take (to - from) (drop from s), length-drop from s)
 
-module _ (does : ℕ) (line : Bytes) (target : ℕ) (name operation operand : Bytes) where
-  abbrev whole : ℕ → Bytes
-  whole d = line_bytes d line target name operation operand
+-- what stands behind the first byte of lines that do the same
+pub behind : {d e : Does} (line : Bytes) (target : ℕ) (name operation operand : Bytes) → d ≡ e → behind_first d line target name operation operand ≡ behind_first e line target name operation operand
+behind line target name operation operand is = ap (λ d. behind_first d line target name operation operand) is
 
-  abbrev behind : ℕ → Bytes
-  behind d = behind_first d line target name operation operand
+-- a line's bytes are its first, and those behind it
+pub headed : (d : Does) (line : Bytes) (target : ℕ) (name operation operand : Bytes) → line_bytes d line target name operation operand ≡ does_code d ∷ behind_first d line target name operation operand
+unfolding line_bytes
+headed d line target name operation operand = refl
 
-  pub is-bare : does < 3 → behind does ≡ []
-  unfolding line_bytes behind_first
-  is-bare h = ap (drop 1) (chosen _ _ (lt-ltb does 3 h))
-
-  pub is-text : does ≡ 3 → behind does ≡ counted line
-  unfolding line_bytes behind_first choose
-  is-text e = ap behind e
-
-  pub is-model : does ≡ 4 → behind does ≡ counted name ++ (counted operation ++ counted operand)
-  unfolding line_bytes behind_first choose
-  is-model e = ap behind e
-
-  pub is-branch-if : does ≡ 5 → behind does ≡ two.put target ++ counted operand
-  unfolding line_bytes behind_first choose
-  is-branch-if e = ap behind e
-
-  pub is-branch : does ≡ 6 → behind does ≡ two.put target
-  unfolding line_bytes behind_first choose
-  is-branch e = ap behind e
-
-  pub is-count : does ≡ 7 → behind does ≡ counted operand
-  unfolding line_bytes behind_first choose
-  is-count e = ap behind e
-
-  pub is_set : 3 ≤ does → (does ≡ 3 → ⊥) → (does ≡ 4 → ⊥) → (does ≡ 5 → ⊥) → (does ≡ 6 → ⊥) → (does ≡ 7 → ⊥) → behind does ≡ counted name ++ counted operand
-  unfolding line_bytes behind_first
-  is_set h n₃ n₄ n₅ n₆ n₇ =
-      ap (drop 1)
-      (passed_over _ _ (le-ltb does 3 h)
-      ∙ (passed_over _ _ (ne_eqb does 3 n₃)
-      ∙ (passed_over _ _ (ne_eqb does 4 n₄) ∙ (passed_over _ _ (ne_eqb does 5 n₅) ∙ (passed_over _ _ (ne_eqb does 6 n₆) ∙ passed_over _ _ (ne_eqb does 7 n₇))))))
-
-  abbrev Headed : Bytes → Type 0
-  Headed s = s ≡ does ∷ drop 1 s
-
-  -- the first byte is what the line does
-  pub headed : whole does ≡ does ∷ behind does
-  unfolding line_bytes behind_first
-  headed =
-      either Headed (ltb does 3) (λ e. refl)
-      (λ e. either Headed (eqb does 3) (λ e. refl)
-      (λ e. either Headed (eqb does 4) (λ e. refl)
-      (λ e. either Headed (eqb does 5) (λ e. refl)
-      (λ e. either Headed (eqb does 6) (λ e. refl)
-      (λ e. either Headed (eqb does 7) (λ e. refl) (λ e. refl))))))
+-- nothing, where it says no more than what it does
+pub bare : {d : Does} (line : Bytes) (target : ℕ) (name operation operand : Bytes) → (d ≡ Passes) ⊎ ((d ≡ Ends) ⊎ (d ≡ Exits)) → behind_first d line target name operation operand ≡ []
+unfolding behind_first
+bare line target name operation operand (inl is) = behind line target name operation operand is
+bare line target name operation operand (inr (inl is)) = behind line target name operation operand is
+bare line target name operation operand (inr (inr is)) = behind line target name operation operand is
 
 -- a byte, and the others behind it
 module _ (bytes s : Bytes) (does : ℕ) (is : bytes ≡ does ∷ s) where

@@ -2,14 +2,16 @@
 #![tactic(auto)]
 
 ghost use Rattle.std.specs.Prelude.{◌≡◌, Bool, List, ◌++◌, map, ◌+◌, ◌-◌, ◌≤◌, ◌<◌, length, take};
-ghost use Rattle.rules.specs.Statement.{Set};
+ghost use Rattle.rules.specs.Statement.{Set as Of};
 ghost use Rattle.rules.specs.Grammar.{symbol};
 ghost use Rattle.grammar.specs.Kinds.{number_of};
 ghost use Rattle.deck.specs.Coding.{two, list_of};
 ghost use Rattle.deck.specs.Coders.{kind, flag_code, string, flag};
 ghost use Rattle.lent.specs.Splice.{splice};
 ghost use Rattle.shapes.specs.Shapes.{part};
-ghost use Rattle.writing.specs.Bytes.{counted, behind_first, shape_bytes, Writable, lessened, title_bytes};
+ghost use Rattle.writing.specs.Bytes.{counted, does_code, behind_first, shape_bytes, Writable, lessened, title_bytes};
+
+use kinds::{Does, Set};
 
 // A text with its count before it, written from `at` on; answers where it ends.
 pub fn put_counted(out: &mut [u8], at: usize, s: &[u8]) -> usize
@@ -23,29 +25,20 @@ pub fn put_counted(out: &mut [u8], at: usize, s: &[u8]) -> usize
     start + s.len()
 }
 
-// One less; 0 stays.
-fn less(b: u8) -> u8
-    ensures { result ≡ b - 1 }
-{
-    if b == 0 { 0 } else { b - 1 }
-}
-
-// Every byte one less, from `at` on.
+// Every byte one less, from `at` on; 0 stays.
 fn put_lessened(out: &mut [u8], at: usize, s: &[u8])
     requires { at + length s.now ≤ length out.old }
     ensures { out.new ≡ splice out.old at (lessened s.now) }
 {
-    let mut i = 0;
-    while i < s.len() {
-        out[at + i] = less(s[i]);
-        i += 1;
+    for i in 0..s.len() {
+        out[at + i] = s[i].saturating_sub(1);
     }
 }
 
 // The kinds of SET symbols, counted: one less than the tables have them.
 pub fn put_kinds(out: &mut [u8], at: usize, kinds: &[u8]) -> usize
     requires { (at + (length kinds.now + 2) ≤ length out.old) × (length kinds.now < 65536) }
-    ensures { (ks : List Set) → kinds.now ≡ map (λ k. number_of (symbol k)) ks → (result ≡ at + length ((list_of kind).put ks)) × (out.new ≡ splice out.old at ((list_of kind).put ks)) }
+    ensures { (ks : List Of) → kinds.now ≡ map (λ k. number_of (symbol k)) ks → (result ≡ at + length ((list_of kind).put ks)) × (out.new ≡ splice out.old at ((list_of kind).put ks)) }
 {
     lent::put_two(out, at, kinds.len());
     let start = at + 2;
@@ -83,9 +76,29 @@ fn put_three(out: &mut [u8], at: usize, name: &[u8], operation: &[u8], operand: 
     put_pair(out, end, operation, operand)
 }
 
+// What a line does, as a deck has it: the first of the line's bytes.
+#[tactic(auto, unfolding(crate::specs::Bytes::does_code, deck::specs::Coders::set_code))]
+fn does_code(does: Does) -> u8
+    ensures { result ≡ does_code does }
+{
+    match does {
+        Does::Passes => 0,
+        Does::Ends => 1,
+        Does::Exits => 2,
+        Does::Text => 3,
+        Does::Models => 4,
+        Does::BranchesIf => 5,
+        Does::Branches => 6,
+        Does::Counts => 7,
+        Does::Sets(Set::A) => 8,
+        Does::Sets(Set::B) => 9,
+        Does::Sets(Set::C) => 10,
+    }
+}
+
 // A line's bytes behind the first, by what it does, written from `at` on; answers where they end.
 fn put_behind(
-    does: u8,
+    does: Does,
     line: &[u8],
     target: usize,
     name: &[u8],
@@ -99,26 +112,18 @@ fn put_behind(
     ensures value { result ≡ at + length (behind_first does line.now target name.now operation.now operand.now) }
     ensures out_after { out.new ≡ splice out.old at (behind_first does line.now target name.now operation.now operand.now) }
 {
-    if does < 3 {
-        return at;
+    match does {
+        Does::Passes | Does::Ends | Does::Exits => at,
+        Does::Text => put_counted(out, at, line),
+        Does::Models => put_three(out, at, name, operation, operand),
+        Does::BranchesIf => put_branch(out, at, target, operand),
+        Does::Branches => {
+            lent::put_two(out, at, target);
+            at + 2
+        }
+        Does::Counts => put_counted(out, at, operand),
+        Does::Sets(_) => put_pair(out, at, name, operand),
     }
-    if does == 3 {
-        return put_counted(out, at, line);
-    }
-    if does == 4 {
-        return put_three(out, at, name, operation, operand);
-    }
-    if does == 5 {
-        return put_branch(out, at, target, operand);
-    }
-    if does == 6 {
-        lent::put_two(out, at, target);
-        return at + 2;
-    }
-    if does == 7 {
-        return put_counted(out, at, operand);
-    }
-    put_pair(out, at, name, operand)
 }
 
 // A body line's bytes, written from `at` on; answers where they end.
@@ -143,15 +148,8 @@ pub fn put_line(
     let behind = shape.operand;
     let rest = shape.rest;
     let operand = &code[behind..rest];
-    out[at] = does;
+    out[at] = does_code(does);
     put_behind(does, line, target, name, operation, operand, out, at + 1)
-}
-
-// A flag's byte.
-fn flag_byte(flag: bool) -> u8
-    ensures { result ≡ flag_code flag }
-{
-    if flag { 1 } else { 0 }
 }
 
 // A macro's name, whether it has a name parameter, and the number of its positionals, from `at` on.
@@ -161,7 +159,7 @@ pub fn put_title(out: &mut [u8], at: usize, title: &[u8], named: bool, positiona
     ensures out_after { out.new ≡ splice out.old at (title_bytes title.now named positionals) }
 {
     let end = put_counted(out, at, title);
-    out[end] = flag_byte(named);
+    out[end] = u8::from(named);
     lent::put_two(out, end + 1, positionals);
     end + 3
 }

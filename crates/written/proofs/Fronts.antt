@@ -1,33 +1,26 @@
--- Every byte of a line, one after the other; its name and operand by the places that cut them out. Assumes nothing.
-use Prim.Native.Nat.{ℕ, ◌+◌, ◌-◌, ◌≤◌, ◌<◌}
+-- The first byte of a line; its name and operand by the places that cut them out. Assumes nothing.
+use Prim.Native.Nat.{ℕ, ◌-◌}
 use native.Mathlib.Nat.{sub-zero}
-use native.Mathlib.Numerals.{add-one}
-use mathlib.Core.Path.{◌≡◌, ap, sym, ◌∙◌}
-use mathlib.Core.Bool.{Bool, true, false, ◌&&◌}
-use lib.ListN.{length, get_or, take, drop, drop_of_length-le}
-use lib.Seq.{drop-cons}
+use mathlib.Core.Path.{◌≡◌, refl, ap, sym, ◌∙◌}
+use mathlib.Core.Bool.{Bool, true, false, ◌&&◌, and-true}
+use mathlib.Core.List.{[], ◌∷◌}
+use lib.Dec.{eqb}
+use lib.ListN.{get_or, take, drop}
+use borrow.Author.Tests.{eqb-true, eqb-false, eq-eqb, ne_eqb}
 use Rattle.text.specs.Bytes.{Bytes}
-use Rattle.rules.specs.Choice.{every}
-use Rattle.rules.specs.Fields.{Fields, fields_of, holds_spaces}
+use Rattle.rules.specs.Fields.{Fields, fields_of, is_copied_remark, starts_with, holds_spaces}
+use Rattle.rules.proofs.Choices.{by}
 use Rattle.fields.specs.declared.Cuts.{Cuts as Places}
 use Rattle.fields.specs.Cuts.{run_end, operand_end_at, cuts_of, fields_by}
 use Rattle.fields.proofs.Cut.{cuts_are, fields-cut}
 
-module _ (test : ℕ → Bool) (l : Bytes) (i : ℕ) where
-  pub every-done : length l ≤ i → every test (drop i l) ≡ true
-  unfolding every
-  every-done h = ap (every test) (drop_of_length-le l h)
+swapped : (a b : ℕ) → eqb a b ≡ eqb b a
+swapped a b = by (eqb a b) (λ e. e ∙ sym (eq-eqb b a (sym (eqb-true a b e)))) (λ e. e ∙ sym (ne_eqb b a (λ d. eqb-false a b e (sym d))))
 
-  module _ (h : i < length l) where
-    every-on : every test (drop i l) ≡ (test (get_or l i 0) && every test (drop (i + 1) l))
-    unfolding every
-    every-on = ap (every test) (drop-cons l i 0 h) ∙ (λ j. test (get_or l i 0) && every test (drop (sym (add-one i) j) l))
-
-    pub every-stop : test (get_or l i 0) ≡ false → every test (drop i l) ≡ false
-    every-stop e = every-on ∙ ap (λ (b : Bool). b && every test (drop (i + 1) l)) e
-
-    pub every-next : test (get_or l i 0) ≡ true → every test (drop i l) ≡ every test (drop (i + 1) l)
-    every-next e = every-on ∙ ap (λ (b : Bool). b && every test (drop (i + 1) l)) e
+pub copied_is : (l : Bytes) → eqb (get_or l 0 0) 42 ≡ is_copied_remark l
+unfolding is_copied_remark starts_with
+copied_is [] = refl
+copied_is (a ∷ l) = swapped a 42 ∙ sym (and-true (eqb 42 a))
 
 pub name-is : (l : Bytes) (end : ℕ) → end ≡ run_end false l 0 → take (end - 0) (drop 0 l) ≡ (fields_of l).name
 unfolding fields_by cuts_of

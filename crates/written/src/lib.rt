@@ -1,23 +1,16 @@
-// How a line is written: whether its bytes are in the set, and its name and operand, whatever its operation is.
+// How a line is written: whether its bytes are in the set, whether it is a remark that is copied, and its name and operand, whatever its operation is.
 #![tactic(auto)]
 
 ghost use Rattle.std.specs.Prelude.{◌≡◌};
 ghost use Rattle.text.specs.Characters.{in_set};
 ghost use Rattle.rules.specs.Choice.{every};
-ghost use Rattle.rules.specs.Fields.{is_ill_written, fields_of};
+ghost use Rattle.rules.specs.Fields.{is_ill_written, is_copied_remark, fields_of};
 
 // Whether every byte is in the set.
 fn all_in_set(line: &[u8]) -> bool
     ensures { result ≡ every in_set line.now }
 {
-    let mut i = 0;
-    while i < line.len() {
-        if !chars::in_set(line[i]) {
-            return false;
-        }
-        i += 1;
-    }
-    true
+    line.iter().all(|b| chars::in_set(*b))
 }
 
 // Whether a line has a byte outside the set or is too long.
@@ -26,6 +19,13 @@ pub fn is_ill_written(line: &[u8]) -> bool
 {
     let good = all_in_set(line);
     (71 < line.len()) | !good
+}
+
+// Whether a line is a remark that is copied.
+pub fn is_copied_remark(line: &[u8]) -> bool
+    ensures { result ≡ is_copied_remark line.now }
+{
+    lent::byte(line, 0) == b'*'
 }
 
 // The name of a line, read as a statement.

@@ -5,7 +5,4 @@ use Rattle.lent.specs.Splice.{splice}
 use Rattle.batch.proofs.keep.Given as goal
 
 abbrev pub invariant-loop-i : goal.invariant-loop-i
-invariant-loop-i l = (l.i ≤ l.end - l.from) × (length l.buffer ≡ length l.initial.buffer) × (l.buffer ≡ splice l.initial.buffer 0 (take l.i (drop l.from l.initial.buffer)))
-
-abbrev pub decreases-loop-i : goal.decreases-loop-i
-decreases-loop-i l = l.end - l.from - l.i
+invariant-loop-i l = (length l.buffer ≡ length l.initial.buffer) × (l.buffer ≡ splice l.initial.buffer 0 (take l.i (drop l.from l.initial.buffer)))

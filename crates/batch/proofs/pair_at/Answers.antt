@@ -3,11 +3,12 @@ use mathlib.Core.Path.{sym, ◌∙◌}
 use Rattle.batch.proofs.Cases.{pair-both, pair_one, pair-none}
 use Rattle.batch.proofs.pair_at.Goals as goal
 
-pub returns-in-Is-number_at : goal.returns-in-Is-number_at
-returns-in-Is-number_at c = sym (pair-both _ _ _ (sym c.number_at.ensures ∙ c.in-Is.is) (sym c.number_at-in-Is.ensures ∙ c.in-Is-number_at.is))
+pub returns-in_err-first : goal.returns-in_err-first
+returns-in_err-first c = c.from_residual.ensures ∙ sym (pair-none _ _ _ (sym c.number_at.ensures ∙ c.in_err-first.was))
 
-pub returns-in-Not-number_at : goal.returns-in-Not-number_at
-returns-in-Not-number_at c = sym (pair_one _ _ _ (sym c.number_at.ensures ∙ c.in-Is.is) (sym c.number_at-in-Is.ensures ∙ c.in-Not-number_at.is))
+pub returns-in_err-second : goal.returns-in_err-second
+returns-in_err-second c =
+    c.from_residual-in_err-second.ensures ∙ sym (pair_one _ _ _ (sym c.number_at.ensures ∙ c.in_ok-first.was) (sym c.number_at-2.ensures ∙ c.in_err-second.was))
 
-pub returns-in-Not : goal.returns-in-Not
-returns-in-Not c = sym (pair-none _ _ _ (sym c.number_at.ensures ∙ c.in-Not.is))
+pub returns : goal.returns
+returns c = sym (pair-both _ _ _ (sym c.number_at.ensures ∙ c.in_ok-first.was) (sym c.number_at-2.ensures ∙ c.in_ok-second.was))

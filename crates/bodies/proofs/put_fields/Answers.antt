@@ -19,28 +19,28 @@ unfolding codes_of code_ends
 slice_bounds-all-end c =
     let a = c.args in
     let f = c.code_fields-codes.ensures in
-    end-within a.own.now a.global.now a.shared.now a.line.now a.body.now a.name.now a.operation.now a.operand.now a.code.now c.requires.held _ _ f.code_after f.value
+    end-within a.names.own.now a.names.global.now a.names.shared.now a.line.now a.body.now a.name.now a.operation.now a.operand.now a.code.now c.requires.held _ _ f.code_after f.value
 
 pub slice_bounds-all-end-2 : goal.slice_bounds-all-end-2
 unfolding codes_of code_ends
 slice_bounds-all-end-2 c =
     let a = c.args in
     let f = c.code_fields-codes.ensures in
-    sym (length-take-le _ _ (end-within a.own.now a.global.now a.shared.now a.line.now a.body.now a.name.now a.operation.now a.operand.now a.code.now c.requires.held _ _ f.code_after f.value))
+    sym (length-take-le _ _ (end-within a.names.own.now a.names.global.now a.names.shared.now a.line.now a.body.now a.name.now a.operation.now a.operand.now a.code.now c.requires.held _ _ f.code_after f.value))
 
 pub shape_of-shape-requires : goal.shape_of-shape-requires
 unfolding codes_of code_ends
 shape_of-shape-requires c =
     let a = c.args in
     let f = c.code_fields-codes.ensures in
-    ends-in a.own.now a.global.now a.shared.now a.line.now a.body.now a.name.now a.operation.now a.operand.now a.code.now c.requires.held _ _ f.code_after f.value
+    ends-in a.names.own.now a.names.global.now a.names.shared.now a.line.now a.body.now a.name.now a.operation.now a.operand.now a.code.now c.requires.held _ _ f.code_after f.value
 
 pub put_kept-requires : goal.put_kept-requires
 unfolding codes_of code_ends
 put_kept-requires c =
     let a = c.args in
     let f = c.code_fields-codes.ensures in
-    kept-now a.own.now a.global.now a.shared.now a.line.now a.body.now a.name.now a.operation.now a.operand.now a.code.now c.requires.held _ _ f.code_after f.value _ _ _ c.word-word.ensures c.is_sequence-label.ensures c.shape_of-shape.ensures a.out.now a.at c.requires.operand_in_bounds
+    kept-now a.names.own.now a.names.global.now a.names.shared.now a.line.now a.body.now a.name.now a.operation.now a.operand.now a.code.now c.requires.held _ _ f.code_after f.value _ _ _ c.word-word.ensures.statement c.is_sequence-label.ensures c.shape_of-shape.ensures a.out.now a.at c.requires.operand_in_bounds
 
 pub returns : goal.returns
 unfolding codes_of code_ends
@@ -48,5 +48,5 @@ returns c =
     let a = c.args in
     let f = c.code_fields-codes.ensures in
     let e = c.put_kept.ensures in
-    let is = fields-bytes a.own.now a.global.now a.shared.now a.line.now a.body.now a.name.now a.operation.now a.operand.now a.code.now c.requires.held _ _ f.code_after f.value _ _ _ c.word-word.ensures c.is_sequence-label.ensures c.shape_of-shape.ensures in
+    let is = fields-bytes a.names.own.now a.names.global.now a.names.shared.now a.line.now a.body.now a.name.now a.operation.now a.operand.now a.code.now c.requires.held _ _ f.code_after f.value _ _ _ c.word-word.ensures.statement c.is_sequence-label.ensures c.shape_of-shape.ensures in
     record { value = e.value ∙ ap (λ (t : Bytes). a.at + length t) is; out_after = e.out_after ∙ ap (splice a.out.now a.at) is }

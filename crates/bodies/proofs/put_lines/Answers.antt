@@ -1,40 +1,62 @@
 -- `bodies::put_lines` meets its contract: what finishing from here writes is what is to be written. Assumes nothing.
-use Prim.Native.Nat.{◌≤◌, ◌<◌}
-use native.Mathlib.Omega.{arith}
-use mathlib.Core.Path.{refl, ap, ◌∙◌}
-use lib.ListN.{length}
+use Rattle.std.proofs.Common.{rules, ◌≡◌, ◌+◌, List, length, refl, ap, ◌∙◌, arith}
+use Rattle.text.specs.Bytes.{Bytes}
+use Rattle.rules.specs.Choice.{any}
+use Rattle.rules.specs.Fields.{lines_of, is_ill_written}
+use Rattle.lent.specs.Splice.{splice}
 use Rattle.lent.proofs.Writes.{splice-length}
+use Rattle.line_reader.specs.Reading.{lines_left}
+use Rattle.bodies.specs.Lines.{lines_in}
 use Rattle.bodies.proofs.Turns.{all_end, all-splice, line-room, turn-size, turn-splice, turn-good, turn-ready}
-use borrow.Author.Rules.{rules}
 use Rattle.bodies.proofs.put_lines.Goals as goal
 
-pub loop-next-init : goal.loop-next-init
-loop-next-init c = (refl, refl, c.requires.all_ready.written, refl, refl)
+pub loop-line-init : goal.loop-line-init
+loop-line-init c =
+    let a = c.args in
+    let left : lines_left c.into_iter-line-iterator.result ≡ lines_of a.body.now = ap lines_left (c.into_iter-line-iterator.ensures.into_iter_gives ∙ c.new-line-items.ensures) in
+    let bytes : List Bytes → Bytes = lines_in a.names.own.now a.names.global.now a.names.shared.now a.body.now in
+    record {
+      can = tt;
+      finite = tt;
+      code = refl;
+      out = refl;
+      written = ap (any is_ill_written) left ∙ c.requires.all_ready.written;
+      size = ap (λ ls. a.at + length (bytes ls)) left;
+      bytes = ap (λ ls. splice a.out.now a.at (bytes ls)) left;
+    }
 
 pub put_body_line-to-requires : goal.put_body_line-to-requires
 put_body_line-to-requires c =
     let a = c.args in
-    let body = a.body.now in
-    let lt : c.loop-next.next < length body = search rules in
-    let e = c.line_end-end.ensures.value in record { ready = turn-ready a.own.now a.global.now a.shared.now body c.loop-next.next _ lt e c.loop-next.invariant.2 c.loop-next.code (omega (arith, c.requires.all_ready.fits, c.loop-next.invariant.0)) c.requires.all_ready.lines-count; line_in_bounds = line-room a.own.now a.global.now a.shared.now body c.loop-next.next _ lt e c.loop-next.to _ (length c.loop-next.out) c.loop-next.invariant.3 (omega (arith, c.requires.body_in_bounds, c.loop-next.invariant.1)) }
+    let i = c.loop-line.invariant in
+    let e = c.in-Some.ensures.steps in
+    record {
+      ready = turn-ready a.names.own.now a.names.global.now a.names.shared.now a.body.now _ _ _ e i.written c.loop-line.code (omega (arith, c.requires.all_ready.fits, i.code)) c.requires.all_ready.lines-count;
+      line_in_bounds = line-room a.names.own.now a.names.global.now a.names.shared.now a.body.now _ _ _ e c.loop-line.to _ (length c.loop-line.out) i.size (omega (arith, c.requires.body_in_bounds, i.out));
+    }
 
-pub loop-next-preserved : goal.loop-next-preserved
-loop-next-preserved c =
+pub loop-line-preserved : goal.loop-line-preserved
+loop-line-preserved c =
     let a = c.args in
-    let body = a.body.now in
-    let lt : c.loop-next.next < length body = search rules in
-    let e = c.line_end-end.ensures.value in
-    let f = c.put_body_line-to.ensures in (
-      search rules,
-      ap length f.out_after ∙ (splice-length _ _ _ ∙ c.loop-next.invariant.1),
-      turn-good a.own.now a.global.now a.shared.now body c.loop-next.next _ lt e c.loop-next.invariant.2,
-      turn-size a.own.now a.global.now a.shared.now body c.loop-next.next _ lt e c.loop-next.to _ _ f.value c.loop-next.invariant.3,
-      turn-splice a.own.now a.global.now a.shared.now body c.loop-next.next _ lt e c.loop-next.out _ _ c.loop-next.to _ f.value f.out_after c.loop-next.invariant.4,
-    )
+    let i = c.loop-line.invariant in
+    let e = c.in-Some.ensures.steps in
+    let f = c.put_body_line-to.ensures in
+    record {
+      can = tt;
+      finite = tt;
+      code = search rules;
+      out = ap length f.out_after ∙ (splice-length _ _ _ ∙ i.out);
+      written = turn-good a.names.own.now a.names.global.now a.names.shared.now a.body.now _ _ _ e i.written;
+      size = turn-size a.names.own.now a.names.global.now a.names.shared.now a.body.now _ _ _ e c.loop-line.to _ _ f.value i.size;
+      bytes = turn-splice a.names.own.now a.names.global.now a.names.shared.now a.body.now _ _ _ e c.loop-line.out _ _ c.loop-line.to _ f.value f.out_after i.bytes;
+    }
 
 pub returns : goal.returns
 returns c =
     let a = c.args in
-    let body = a.body.now in
-    let end : length body ≤ c.loop-next.next = search rules in
-    record { value = all_end a.own.now a.global.now a.shared.now body c.loop-next.next end c.loop-next.to _ c.loop-next.invariant.3; out_after = all-splice a.own.now a.global.now a.shared.now body c.loop-next.next end c.loop-next.out _ c.loop-next.to c.loop-next.invariant.4 }
+    let i = c.loop-line.invariant in
+    let e = c.in-None.ensures.steps.0 in
+    record {
+      value = all_end a.names.own.now a.names.global.now a.names.shared.now a.body.now _ e c.loop-line.to _ i.size;
+      out_after = all-splice a.names.own.now a.names.global.now a.names.shared.now a.body.now _ e c.loop-line.out _ c.loop-line.to i.bytes;
+    }

@@ -38,12 +38,12 @@ slice_bounds-operand-end c =
 pub put_fields-requires : goal.put_fields-requires
 put_fields-requires c =
     let a = c.args in
-    let is = cut-bytes a.line.now _ c.cuts_of-cuts.ensures a.own.now a.global.now a.shared.now a.body.now in
+    let is = cut-bytes a.line.now _ c.cuts_of-cuts.ensures a.names.own.now a.names.global.now a.names.shared.now a.body.now in
     record { held = cut-held a.line.now _ c.cuts_of-cuts.ensures a.body.now a.code.now c.requires.ready; operand_in_bounds = subst (λ (t : Bytes). a.at + length t ≤ length a.out.now) is c.requires.line_in_bounds }
 
 pub returns : goal.returns
 returns c =
     let a = c.args in
-    let is = cut-bytes a.line.now _ c.cuts_of-cuts.ensures a.own.now a.global.now a.shared.now a.body.now in
+    let is = cut-bytes a.line.now _ c.cuts_of-cuts.ensures a.names.own.now a.names.global.now a.names.shared.now a.body.now in
     let e = c.put_fields.ensures in
     record { value = e.value ∙ ap (λ (t : Bytes). a.at + length t) (sym is); out_after = e.out_after ∙ ap (splice a.out.now a.at) (sym is) }

@@ -6,7 +6,4 @@ use Rattle.call_codes.proofs.Scanned.{stops_from}
 use Rattle.call_codes.proofs.bare_at.Given as goal
 
 abbrev pub invariant-loop-i : goal.invariant-loop-i
-invariant-loop-i l = (l.at ≤ l.i) × (l.i ≤ l.at + (length l.code - l.at)) × (l.seen.depth ≤ l.i) × (l.at + cut_at l.c (drop l.at l.code) ≡ stops_from l.c l.code l.i l.seen)
-
-abbrev pub decreases-loop-i : goal.decreases-loop-i
-decreases-loop-i l = length l.code - l.i
+invariant-loop-i l = (l.seen.depth ≤ l.i) × (l.i ≤ l.at + (length l.code - l.at)) × (l.at + cut_at l.c (drop l.at l.code) ≡ stops_from l.c l.code l.i l.seen)

@@ -1,92 +1,34 @@
-use borrow.Author.Rules.{rules}
-use Prim.Native.Nat.{◌≤◌, ◌<◌}
-use native.Mathlib.Omega.{arith}
-use mathlib.Core.Path.{refl, ap, sym, ◌∙◌}
-use lib.ListN.{length}
+-- `call_keywords::given_for` meets its contract: the parts still to come give the value if all do. Assumes nothing.
+use Rattle.std.proofs.Common.{map, ap, sym, ◌∙◌}
+use Rattle.text.specs.Bytes.{same}
 use Rattle.rules.specs.Machine.{keyword_value}
-use Rattle.call_keywords.specs.Defaults.{value_by}
-use Rattle.call_keywords.proofs.Known.{within, value_found, value_on, given-done}
+use Rattle.call_operands.specs.Calling.{keyword_in}
+use Rattle.call_keywords.specs.Defaults.{given_by, value_by}
+use Rattle.call_keywords.proofs.Known.{value_found, value_on}
 use Rattle.call_keywords.proofs.given_for.Goals as goal
-
-pub loop-i-init : goal.loop-i-init
-loop-i-init c = λ default. refl
-
-pub overflow_add-i : goal.overflow_add-i
-overflow_add-i c =
-    let s = c.args.operand.now in
-    let le : c.loop-i.i ≤ length s = search rules in
-    let e = c.bare_at-end.ensures in
-    let q = c.bare_at-cut.ensures in
-    let w = within c.loop-i.i c.bare_at-end.result c.bare_at-cut.result s q.lower_bound.1 in
-    omega (arith, e.lower_bound, w, le)
-
-pub slice_bounds-equal-count : goal.slice_bounds-equal-count
-slice_bounds-equal-count c =
-    let s = c.args.operand.now in
-    let le : c.loop-i.i ≤ length s = search rules in
-    let e = c.bare_at-end.ensures in
-    let q = c.bare_at-cut.ensures in
-    let w = within c.loop-i.i c.bare_at-end.result c.bare_at-cut.result s q.lower_bound.1 in
-    omega (arith, e.lower_bound, w, le)
-
-pub slice_bounds-equal-start : goal.slice_bounds-equal-start
-slice_bounds-equal-start c =
-    let s = c.args.operand.now in
-    let le : c.loop-i.i ≤ length s = search rules in
-    let e = c.bare_at-end.ensures in
-    let q = c.bare_at-cut.ensures in
-    let w = within c.loop-i.i c.bare_at-end.result c.bare_at-cut.result s q.lower_bound.1 in
-    omega (arith, e.lower_bound, w, le)
-
-pub slice_bounds-equal-end : goal.slice_bounds-equal-end
-slice_bounds-equal-end c =
-    let s = c.args.operand.now in
-    let le : c.loop-i.i ≤ length s = search rules in
-    let e = c.bare_at-end.ensures in
-    let q = c.bare_at-cut.ensures in
-    let w = within c.loop-i.i c.bare_at-end.result c.bare_at-cut.result s q.lower_bound.1 in
-    omega (arith, e.lower_bound, w, le)
-
-pub overflow_add-result : goal.overflow_add-result
-overflow_add-result c =
-    let s = c.args.operand.now in
-    let le : c.loop-i.i ≤ length s = search rules in
-    let e = c.bare_at-end.ensures in
-    let q = c.bare_at-cut.ensures in
-    let w = within c.loop-i.i c.bare_at-end.result c.bare_at-cut.result s q.lower_bound.1 in
-    omega (arith, e.lower_bound, w, le)
-
-pub overflow_add-result-then-equal : goal.overflow_add-result-then-equal
-overflow_add-result-then-equal c =
-    let s = c.args.operand.now in
-    let le : c.loop-i.i ≤ length s = search rules in
-    let e = c.bare_at-end.ensures in
-    let q = c.bare_at-cut.ensures in
-    let w = within c.loop-i.i c.bare_at-end.result c.bare_at-cut.result s q.lower_bound.1 in
-    omega (arith, e.lower_bound, w, le)
 
 pub returns-then-equal : goal.returns-then-equal
 unfolding value_by
 returns-then-equal c =
-    let s = c.args.operand.now in
-    let le : c.loop-i.i ≤ length s = search rules in
-    let e = c.bare_at-end.ensures in
-    let q = c.bare_at-cut.ensures in
+    let name = c.args.name.now in
+    let pair = c.keyword_in.ensures in
     λ default.
-    value_found s c.loop-i.i _ _ le e.value e.lower_bound.1 q.value q.lower_bound.1 c.args.name.now default c.equal.ensures c.if-equal.true ∙ sym (c.loop-i.invariant default)
+    ap (λ k. k.1) pair
+    ∙ (value_found c.in-Some.part.now c.in-Some.ensures.steps name default (c.equal.ensures ∙ ap (λ k. same k.0 name) pair) c.if-equal.true
+    ∙ (sym (c.loop-part.invariant default) ∙ ap (λ p. keyword_value name default (given_by p)) c.into_iter-part-iterator.ensures.into_iter_gives))
 
-pub loop-i-preserved : goal.loop-i-preserved
-loop-i-preserved c =
-    let s = c.args.operand.now in
-    let le : c.loop-i.i ≤ length s = search rules in
-    let e = c.bare_at-end.ensures in
-    let q = c.bare_at-cut.ensures in
+pub loop-part-preserved : goal.loop-part-preserved
+loop-part-preserved c =
+    let name = c.args.name.now in
     λ default.
-    c.loop-i.invariant default ∙ value_on s c.loop-i.i _ _ le e.value e.lower_bound.1 q.value q.lower_bound.1 c.args.name.now default c.equal.ensures c.if-equal.false
+    c.loop-part.invariant default
+    ∙ value_on c.in-Some.part.now c.in-Some.ensures.steps name default (c.equal.ensures ∙ ap (λ k. same k.0 name) c.keyword_in.ensures) c.if-equal.false
 
 pub returns : goal.returns
 unfolding value_by keyword_value
 returns c =
-    let a = c.args in
-    let past : length a.operand.now < c.loop-i.i = search rules in
-    λ default. sym (c.loop-i.invariant default ∙ ap (keyword_value a.name.now default) (given-done a.operand.now c.loop-i.i past))
+    let name = c.args.name.now in
+    λ default.
+    sym
+    (ap (λ p. keyword_value name default (given_by p)) (sym c.into_iter-part-iterator.ensures.into_iter_gives)
+    ∙ (c.loop-part.invariant default ∙ ap (λ ps. keyword_value name default (map keyword_in ps)) c.in-None.ensures.steps.0))

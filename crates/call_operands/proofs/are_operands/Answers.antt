@@ -1,41 +1,18 @@
-use borrow.Author.Rules.{rules}
-use Prim.Native.Nat.{◌≤◌, ◌<◌}
-use native.Mathlib.Omega.{arith}
 use mathlib.Core.Path.{ap, sym, ◌∙◌}
-use mathlib.Core.Bool.{false}
-use lib.ListN.{length}
-use Rattle.operands.proofs.Rest.{rest_from, all_none, all_rest, rest-done}
 use Rattle.call_operands.specs.Calling.{are_operands}
 use Rattle.call_operands.proofs.Walk.{operands-stop, operands-on}
 use Rattle.call_operands.proofs.are_operands.Goals as goal
 
-pub returns-then-operand-eq0 : goal.returns-then-operand-eq0
-unfolding are_operands
-returns-then-operand-eq0 c = sym (ap (are_operands false) (all_none c.args.operand.now c.if-operand-eq0.true))
-
-pub loop-at-init : goal.loop-at-init
-loop-at-init c = (omega arith, ap (are_operands false) (all_rest c.args.operand.now c.if-operand-eq0.false))
-
 pub returns-then-not-may_stand : goal.returns-then-not-may_stand
-unfolding rest_from
-returns-then-not-may_stand c =
-    let s = c.args.operand.now in
-    let le : c.loop-at.at ≤ length s = search rules in
-    sym (c.loop-at.invariant.1 ∙ operands-stop s c.loop-at.at _ le c.bare_at-end.ensures.value c.loop-at.keywords c.may_stand.ensures c.if-not-may_stand.true)
+returns-then-not-may_stand g c =
+    sym (c.loop-part.invariant ∙ ap (are_operands c.loop-part.keywords) c.in-Some.ensures ∙ operands-stop _ _ c.loop-part.keywords c.may_stand.ensures c.if-not-may_stand.true)
 
-pub loop-at-preserved : goal.loop-at-preserved
-unfolding rest_from
-loop-at-preserved c =
-    let s = c.args.operand.now in
-    let le : c.loop-at.at ≤ length s = search rules in
-    let e = c.bare_at-end.ensures in (
-      omega (arith, e.lower_bound.1, le),
-      c.loop-at.invariant.1 ∙ operands-on s c.loop-at.at _ le e.value c.loop-at.keywords c.may_stand.ensures c.if-not-may_stand.false c.has_equals-keywords.ensures,
-    )
+pub loop-part-preserved : goal.loop-part-preserved
+loop-part-preserved g c =
+    c.loop-part.invariant
+    ∙ ap (are_operands c.loop-part.keywords) c.in-Some.ensures
+    ∙ operands-on _ _ c.loop-part.keywords c.may_stand.ensures c.if-not-may_stand.false c.has_equals-keywords.ensures
 
 pub returns : goal.returns
 unfolding are_operands
-returns c =
-    let s = c.args.operand.now in
-    let past : length s < c.loop-at.at = search rules in
-    sym (c.loop-at.invariant.1 ∙ ap (are_operands c.loop-at.keywords) (rest-done s c.loop-at.at past))
+returns g c = sym (c.loop-part.invariant ∙ ap (are_operands c.loop-part.keywords) c.in_default.ensures.0)

@@ -1,15 +1,9 @@
-use Prim.Native.Nat.{◌+◌, ◌-◌, ◌≤◌}
-use mathlib.Core.Path.{◌≡◌}
-use mathlib.Core.Bool.{true, false}
-use lib.ListN.{length}
-use Rattle.rules.specs.Lexemes.{lexed}
-use Rattle.rules.specs.Calls.{divided}
-use Rattle.operands.proofs.Rest.{rest_from}
+use Rattle.std.proofs.Common.{◌≡◌, false, length}
 use Rattle.call_operands.specs.Calling.{are_operands}
 use Rattle.call_operands.proofs.are_operands.Given as goal
 
-abbrev pub invariant-loop-at : goal.invariant-loop-at
-invariant-loop-at l = (l.at ≤ length l.operand + 1) × (are_operands false (divided (lexed true l.operand)) ≡ are_operands l.keywords (rest_from l.operand l.at))
+abbrev pub invariant-loop-part : goal.invariant-loop-part
+invariant-loop-part g l = are_operands false (g.P.Divides.left l.fn.parts) ≡ are_operands l.keywords (g.P.Divides.left l.rest)
 
-abbrev pub decreases-loop-at : goal.decreases-loop-at
-decreases-loop-at l = length l.operand + 1 - l.at
+abbrev pub decreases-loop-part : goal.decreases-loop-part
+decreases-loop-part g l = length (g.P.Divides.left l.rest)

@@ -1,33 +1,14 @@
-use borrow.Author.Rules.{rules}
-use Prim.Native.Nat.{◌≤◌, ◌<◌}
-use mathlib.Core.Path.{refl, ap, sym, ◌∙◌}
-use lib.ListN.{length}
-use Rattle.text.specs.Bytes.{same}
-use Rattle.rules.specs.Choice.{any}
-use Rattle.operands.proofs.Rest.{rest_from, rest-done, any-stop, any-on}
-use Rattle.call_operands.specs.Calling.{name_of, named_among}
+use mathlib.Core.Path.{ap, sym, ◌∙◌}
+use Rattle.call_operands.specs.Calling.{named_among}
+use Rattle.call_operands.proofs.Walk.{named-here, named-on, named_none}
 use Rattle.call_operands.proofs.named_among.Goals as goal
 
-pub loop-i-init : goal.loop-i-init
-loop-i-init c = refl
-
 pub returns-then-is_named : goal.returns-then-is_named
-unfolding named_among rest_from
-returns-then-is_named c =
-    let a = c.args in
-    let le : c.loop-i.i ≤ length a.operand.now = search rules in
-    sym (c.loop-i.invariant ∙ any-stop a.operand.now c.loop-i.i _ le c.bare_at-end.ensures.value (λ x. same (name_of x) a.name.now) c.is_named.ensures c.if-is_named.true)
+returns-then-is_named g c =
+    sym (c.loop-part.invariant ∙ ap (named_among c.args.name.now) c.in-Some.ensures ∙ named-here _ _ c.args.name.now (sym c.is_named.ensures ∙ c.if-is_named.true))
 
-pub loop-i-preserved : goal.loop-i-preserved
-unfolding named_among
-loop-i-preserved c =
-    let a = c.args in
-    let le : c.loop-i.i ≤ length a.operand.now = search rules in
-    c.loop-i.invariant ∙ any-on a.operand.now c.loop-i.i _ le c.bare_at-end.ensures.value (λ x. same (name_of x) a.name.now) c.is_named.ensures c.if-is_named.false
+pub loop-part-preserved : goal.loop-part-preserved
+loop-part-preserved g c = c.loop-part.invariant ∙ ap (named_among c.args.name.now) c.in-Some.ensures ∙ named-on _ _ c.args.name.now (sym c.is_named.ensures ∙ c.if-is_named.false)
 
 pub returns : goal.returns
-unfolding named_among rest_from any
-returns c =
-    let a = c.args in
-    let past : length a.operand.now < c.loop-i.i = search rules in
-    sym (c.loop-i.invariant ∙ ap (named_among a.name.now) (rest-done a.operand.now c.loop-i.i past))
+returns g c = sym (c.loop-part.invariant ∙ ap (named_among c.args.name.now) c.in_default.ensures.0 ∙ named_none _ c.args.name.now)

@@ -1,42 +1,21 @@
-use borrow.Author.Rules.{rules}
-use Prim.Native.Nat.{◌≤◌, ◌<◌}
+use Prim.Native.Nat.{◌<◌, ◌^◌}
 use native.Mathlib.Omega.{arith}
 use mathlib.Core.Path.{ap, sym, ◌∙◌}
 use lib.ListN.{length}
-use Rattle.rules.specs.Choice.{run}
-use Rattle.operands.proofs.Rest.{all_none, all_rest, rest-done}
+use borrow.Author.Rules.{rules}
 use Rattle.call_operands.specs.Calling.{leading}
-use Rattle.call_operands.proofs.Walk.{leading-stop, leading-on}
+use Rattle.call_operands.proofs.Walk.{leading-here, leading-on, leading_none}
 use Rattle.call_operands.proofs.positional_count.Goals as goal
 
-pub returns-then-operand-eq0 : goal.returns-then-operand-eq0
-unfolding leading run
-returns-then-operand-eq0 c = sym (ap leading (all_none c.args.operand.now c.if-operand-eq0.true))
-
-pub loop-at-init : goal.loop-at-init
-loop-at-init c =
-    let e = ap leading (all_rest c.args.operand.now c.if-operand-eq0.false) in
-    (omega arith, omega arith, omega (arith, e))
-
 pub returns-then-has_equals : goal.returns-then-has_equals
-returns-then-has_equals c =
-    let s = c.args.operand.now in
-    let le : c.loop-at.at ≤ length s = search rules in
-    let n = leading-stop s c.loop-at.at _ le c.bare_at-end.ensures.value (sym c.has_equals.ensures ∙ c.if-has_equals.true) in
-    omega (arith, c.loop-at.invariant.2, n)
+returns-then-has_equals g c = omega (arith, c.loop-part.invariant.0, ap leading c.in-Some.ensures ∙ leading-here _ _ (sym c.has_equals.ensures ∙ c.if-has_equals.true))
 
-pub loop-at-preserved : goal.loop-at-preserved
-loop-at-preserved c =
-    let s = c.args.operand.now in
-    let le : c.loop-at.at ≤ length s = search rules in
-    let e = c.bare_at-end.ensures in
-    let n = leading-on s c.loop-at.at _ le e.value (sym c.has_equals.ensures ∙ c.if-has_equals.false) in
-    (omega (arith, c.loop-at.invariant.0, e.lower_bound.0), omega (arith, e.lower_bound.1, le), omega (arith, c.loop-at.invariant.2, n))
+pub overflow_add-count : goal.overflow_add-count
+overflow_add-count g c = let bound : length (g.P.Divides.left c.args.parts) < 2 ^ 64 = search rules in omega (arith, bound, c.loop-part.invariant.1, ap length c.in-Some.ensures)
+
+pub loop-part-preserved : goal.loop-part-preserved
+loop-part-preserved g c =
+    (omega (arith, c.loop-part.invariant.0, ap leading c.in-Some.ensures ∙ leading-on _ _ (sym c.has_equals.ensures ∙ c.if-has_equals.false)), omega (arith, c.loop-part.invariant.1, ap length c.in-Some.ensures))
 
 pub returns : goal.returns
-unfolding leading run
-returns c =
-    let s = c.args.operand.now in
-    let past : length s < c.loop-at.at = search rules in
-    let n = ap leading (rest-done s c.loop-at.at past) in
-    omega (arith, c.loop-at.invariant.2, n)
+returns g c = omega (arith, c.loop-part.invariant.0, ap leading c.in_default.ensures.0 ∙ leading_none _)

@@ -1,15 +1,9 @@
-use Prim.Native.Nat.{◌+◌, ◌-◌, ◌≤◌}
-use mathlib.Core.Path.{◌≡◌}
-use mathlib.Core.Bool.{true}
-use lib.ListN.{length}
-use Rattle.rules.specs.Lexemes.{lexed}
-use Rattle.rules.specs.Calls.{divided}
-use Rattle.operands.proofs.Rest.{rest_from}
+use Rattle.std.proofs.Common.{◌≡◌, ◌+◌, length}
 use Rattle.call_operands.specs.Calling.{leading}
 use Rattle.call_operands.proofs.positional_count.Given as goal
 
-abbrev pub invariant-loop-at : goal.invariant-loop-at
-invariant-loop-at l = (l.count ≤ l.at) × (l.at ≤ length l.operand + 1) × (leading (divided (lexed true l.operand)) ≡ l.count + leading (rest_from l.operand l.at))
+abbrev pub invariant-loop-part : goal.invariant-loop-part
+invariant-loop-part g l = (leading (g.P.Divides.left l.fn.parts) ≡ l.count + leading (g.P.Divides.left l.rest)) × (length (g.P.Divides.left l.fn.parts) ≡ l.count + length (g.P.Divides.left l.rest))
 
-abbrev pub decreases-loop-at : goal.decreases-loop-at
-decreases-loop-at l = length l.operand + 1 - l.at
+abbrev pub decreases-loop-part : goal.decreases-loop-part
+decreases-loop-part g l = length (g.P.Divides.left l.rest)

@@ -10,7 +10,7 @@ use Rattle.rules.specs.Lexemes.{Before}
 use Rattle.names.specs.Names.{slot_byte}
 use Rattle.lent.specs.Splice.{splice}
 use Rattle.lent.proofs.Writes.{splice-length}
-use Rattle.coding.specs.Coded.{codes_from, Leads}
+use Rattle.coding.specs.Coded.{codes_from, before_of, Leads}
 use Rattle.coding.specs.declared.Piece.{Piece}
 use Rattle.coding.proofs.Writes.{from_start, codes-end, leads-size, leads-splice}
 use Rattle.coding.proofs.put_field.Goals as goal
@@ -18,14 +18,14 @@ use Rattle.coding.proofs.put_field.Goals as goal
 pub loop-at-init : goal.loop-at-init
 loop-at-init c =
     let a = c.args in
-    let e = from_start a.quotes a.own.now a.global.now a.shared.now a.field.now in
+    let e = from_start a.quotes a.names.own.now a.names.global.now a.names.shared.now a.field.now in
     (search rules, refl, search rules, ap (λ (s : Bytes). a.from + length s) e, ap (splice a.out.now a.from) e)
 
 pub fill-requires : goal.fill-requires
 fill-requires c =
     let a = c.args in
-    let f : Bytes → ℕ = slot_byte a.own.now a.global.now a.shared.now in
-    let before : Before = record { second = c.loop-at.second; first = c.loop-at.first; quoted = c.loop-at.quoted } in
+    let f : Bytes → ℕ = slot_byte a.names.own.now a.names.global.now a.names.shared.now in
+    let before : Before = before_of c.loop-at.before in
     let p : Piece = c.piece_at-piece.result in
     let l : Leads f a.quotes a.field.now c.loop-at.at before p = c.piece_at-piece.ensures in
     omega arith
@@ -33,18 +33,18 @@ fill-requires c =
 pub overflow_add-to : goal.overflow_add-to
 overflow_add-to c =
     let a = c.args in
-    let f : Bytes → ℕ = slot_byte a.own.now a.global.now a.shared.now in
-    let before : Before = record { second = c.loop-at.second; first = c.loop-at.first; quoted = c.loop-at.quoted } in
+    let f : Bytes → ℕ = slot_byte a.names.own.now a.names.global.now a.names.shared.now in
+    let before : Before = before_of c.loop-at.before in
     let p : Piece = c.piece_at-piece.result in
     let l : Leads f a.quotes a.field.now c.loop-at.at before p = c.piece_at-piece.ensures in
     let room : c.loop-at.to + p.count ≤ length a.out.now = omega arith in
-    omega (arith, c.well_formed.1.1.1.1.1.0.0)
+    search rules
 
 pub loop-at-smaller : goal.loop-at-smaller
 loop-at-smaller c =
     let a = c.args in
-    let f : Bytes → ℕ = slot_byte a.own.now a.global.now a.shared.now in
-    let before : Before = record { second = c.loop-at.second; first = c.loop-at.first; quoted = c.loop-at.quoted } in
+    let f : Bytes → ℕ = slot_byte a.names.own.now a.names.global.now a.names.shared.now in
+    let before : Before = before_of c.loop-at.before in
     let p : Piece = c.piece_at-piece.result in
     let l : Leads f a.quotes a.field.now c.loop-at.at before p = c.piece_at-piece.ensures in
     omega arith
@@ -52,8 +52,8 @@ loop-at-smaller c =
 pub loop-at-preserved : goal.loop-at-preserved
 loop-at-preserved c =
     let a = c.args in
-    let f : Bytes → ℕ = slot_byte a.own.now a.global.now a.shared.now in
-    let before : Before = record { second = c.loop-at.second; first = c.loop-at.first; quoted = c.loop-at.quoted } in
+    let f : Bytes → ℕ = slot_byte a.names.own.now a.names.global.now a.names.shared.now in
+    let before : Before = before_of c.loop-at.before in
     let p : Piece = c.piece_at-piece.result in
     let l : Leads f a.quotes a.field.now c.loop-at.at before p = c.piece_at-piece.ensures in
     let e = c.fill.ensures in (
@@ -68,7 +68,7 @@ pub returns : goal.returns
 unfolding splice
 returns c =
     let a = c.args in
-    let f : Bytes → ℕ = slot_byte a.own.now a.global.now a.shared.now in
-    let before : Before = record { second = c.loop-at.second; first = c.loop-at.first; quoted = c.loop-at.quoted } in
+    let f : Bytes → ℕ = slot_byte a.names.own.now a.names.global.now a.names.shared.now in
+    let before : Before = before_of c.loop-at.before in
     let none : codes_from f a.quotes before (drop c.loop-at.at a.field.now) ≡ [] = codes-end f a.quotes a.field.now c.loop-at.at before (search rules) in
     record { value = omega (arith, ap length none); out_after = sym (ap (splice c.loop-at.out c.loop-at.to) none) ∙ c.loop-at.invariant.4 }

@@ -1,47 +1,52 @@
--- `declare_body` meets its contract: what the lines from here on bring completes the tables. Assumes nothing.
-use Prim.Native.Nat.{◌≤◌, ◌<◌}
-use mathlib.Core.Path.{refl}
-use mathlib.Core.List.{[]}
-use lib.ListN.{length, drop}
+-- `declare_body` meets its contract: what the lines that are left bring completes the tables. Assumes nothing.
+use Rattle.std.proofs.Common.{rules, ◌≡◌, [], refl, ap, sym, ◌∙◌}
 use Rattle.rules.specs.Fields.{lines_of}
-use Rattle.lines.proofs.Found.{no-line}
-use Rattle.labels.proofs.Turns.{turn}
-use Rattle.collecting.proofs.Bodies.{fits-as, room-here, fits-then, brings-nothing, completes-then, sizes-as}
-use borrow.Author.Rules.{rules}
+use Rattle.line_reader.specs.Reading.{lines_left}
+use Rattle.collecting.proofs.Bodies.{fits-as, room-here, fits-then, brings-nothing, completes-then, completes-all, sizes-as}
 use Rattle.collecting.proofs.declare_body.Goals as goal
 
-pub loop-at-init : goal.loop-at-init
-loop-at-init c = (refl, refl, refl, refl, c.requires.fits, λ r x y z w g. g)
+pub loop-line-init : goal.loop-line-init
+loop-line-init c =
+    let a = c.args in
+    let left : lines_left c.into_iter-line-iterator.result ≡ lines_of a.body.now = ap lines_left (c.into_iter-line-iterator.ensures.into_iter_gives ∙ c.new-line-items.ensures) in
+    record {
+      can = tt;
+      finite = tt;
+      own = refl;
+      global = refl;
+      shared = refl;
+      kinds = refl;
+      fits = fits-as a.rows (sym left) c.requires.fits;
+      completes = completes-all (lines_of a.body.now) a.rows a.own.now a.global.now a.shared.now a.kinds.now _ left;
+    }
 
 pub declare_line-count-requires : goal.declare_line-count-requires
 declare_line-count-requires c =
     let a = c.args in
-    let b = c.loop-at in
-    let lt : b.at < length a.body.now = c.loop-at-test.true in
-    let t = turn a.body.now b.at c.line_end-end.result lt c.line_end-end.ensures.value in
-    let f = fits-as b.count t b.invariant.4 in
-    room-here _ _ b.count f _ _ _ _
-    (sizes-as a.own.now a.global.now a.shared.now a.kinds.now _ _ _ _ c.requires.sizes b.invariant.0 b.invariant.1 b.invariant.2 b.invariant.3)
+    let b = c.loop-line in
+    let i = b.invariant in
+    room-here _ _ b.count (fits-as b.count c.in-Some.ensures.steps i.fits) _ _ _ _
+    (sizes-as a.own.now a.global.now a.shared.now a.kinds.now _ _ _ _ c.requires.sizes i.own i.global i.shared i.kinds)
 
-pub loop-at-preserved : goal.loop-at-preserved
-loop-at-preserved c =
+pub loop-line-preserved : goal.loop-line-preserved
+loop-line-preserved c =
     let a = c.args in
-    let b = c.loop-at in
-    let lt : b.at < length a.body.now = c.loop-at-test.true in
-    let t = turn a.body.now b.at c.line_end-end.result lt c.line_end-end.ensures.value in
-    let f = fits-as b.count t b.invariant.4 in
-    let e = c.declare_line-count.ensures in (
-      search rules,
-      search rules,
-      search rules,
-      search rules,
-      fits-then _ _ b.count f _ e.counted,
-      completes-then (lines_of a.body.now) a.rows a.own.now a.global.now a.shared.now a.kinds.now _ _ _ t _ _ _ _ _ b.invariant.5 _ _ _ _ _ e.declares,
-    )
+    let b = c.loop-line in
+    let i = b.invariant in
+    let t = c.in-Some.ensures.steps in
+    let e = c.declare_line-count.ensures in
+    record {
+      can = tt;
+      finite = tt;
+      own = search rules;
+      global = search rules;
+      shared = search rules;
+      kinds = search rules;
+      fits = fits-then _ _ b.count (fits-as b.count t i.fits) _ e.counted;
+      completes = completes-then (lines_of a.body.now) a.rows a.own.now a.global.now a.shared.now a.kinds.now _ _ _ t _ _ _ _ _ i.completes _ _ _ _ _ e.declares;
+    }
 
 pub returns : goal.returns
 returns c =
-    let a = c.args in
-    let b = c.loop-at in
-    let past : length a.body.now ≤ b.at = search rules in
-    b.invariant.5 _ _ _ _ _ (brings-nothing _ _ _ _ _ (lines_of (drop b.at a.body.now)) (no-line a.body.now b.at past)) []
+    let b = c.loop-line in
+    b.invariant.completes _ _ _ _ _ (brings-nothing _ _ _ _ _ (lines_left b.line-iterator) c.in-None.ensures.steps.0) []

@@ -23,14 +23,14 @@ decreases-negation l = 6 * l.nest + 3
 abbrev pub decreases-spaced : goal.decreases-spaced
 decreases-spaced l = 6 * l.nest + 2
 
-abbrev pub invariant-conjunction-loop-so_far : goal.invariant-conjunction-loop-so_far
-invariant-conjunction-loop-so_far l = Loop (conjunctions-of l.nest) l.kinds l.code l.at l.so_far
+abbrev pub invariant-conjunction-loop-next : goal.invariant-conjunction-loop-next
+invariant-conjunction-loop-next l = Loop (conjunctions-of l.nest) l.kinds l.code l.at l.here
 
-abbrev pub decreases-conjunction-loop-so_far : goal.decreases-conjunction-loop-so_far
-decreases-conjunction-loop-so_far l = to_read (conjunctions-of l.nest) l.kinds l.code l.so_far
+abbrev pub decreases-conjunction-loop-next : goal.decreases-conjunction-loop-next
+decreases-conjunction-loop-next l = to_read (conjunctions-of l.nest) l.kinds l.code l.here
 
-abbrev pub invariant-disjunction-loop-so_far : goal.invariant-disjunction-loop-so_far
-invariant-disjunction-loop-so_far l = Loop (disjunctions-of l.nest) l.kinds l.code l.at l.so_far
+abbrev pub invariant-disjunction-loop-next : goal.invariant-disjunction-loop-next
+invariant-disjunction-loop-next l = Loop (disjunctions-of l.nest) l.kinds l.code l.at l.here
 
-abbrev pub decreases-disjunction-loop-so_far : goal.decreases-disjunction-loop-so_far
-decreases-disjunction-loop-so_far l = to_read (disjunctions-of l.nest) l.kinds l.code l.so_far
+abbrev pub decreases-disjunction-loop-next : goal.decreases-disjunction-loop-next
+decreases-disjunction-loop-next l = to_read (disjunctions-of l.nest) l.kinds l.code l.here

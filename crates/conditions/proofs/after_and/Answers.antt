@@ -1,28 +1,17 @@
-use mathlib.Core.Path.{refl, sym, ◌∙◌}
-use native.Mathlib.Omega.{arith}
+use mathlib.Core.Path.{sym, ◌∙◌}
 use mathlib.Core.List.{[]}
+use native.Mathlib.Omega.{arith}
 use lib.Dec.{lit<}
 use Rattle.text.specs.Bytes.{bytes}
-use Rattle.text.specs.Characters.{letter_or_digit, letter, digit}
-use Rattle.grammar.proofs.Answers.{next-found, next-ended, next-broken, next-deep}
+use Rattle.rules.proofs.Choices.{chosen, passed_over}
 use Rattle.conditions.proofs.Words.{word-inside}
 use Rattle.conditions.proofs.after_and.Goals as goal
-
-pub three_letters-requires : goal.three_letters-requires
-unfolding letter_or_digit letter digit
-three_letters-requires c = (refl, (refl, refl))
 
 pub overflow_add-result : goal.overflow_add-result
 overflow_add-result c = let inside = word-inside [] _ (bytes "AND") _ (sym (c.three_letters.ensures []) ∙ c.if-three_letters.true) (lit< tt) in omega arith
 
 pub returns-then-three_letters : goal.returns-then-three_letters
-returns-then-three_letters c = λ kinds. next-found kinds _ _ 3 c.in-At.is (sym (c.three_letters.ensures kinds) ∙ c.if-three_letters.true) (lit< tt)
+returns-then-three_letters c = λ kinds. sym (chosen _ _ (sym (c.three_letters.ensures kinds) ∙ c.if-three_letters.true))
 
 pub returns-else-three_letters : goal.returns-else-three_letters
-returns-else-three_letters c = λ kinds. next-ended kinds _ _ 3 c.in-At.is (sym (c.three_letters.ensures kinds) ∙ c.if-three_letters.false)
-
-pub returns-in-Broken : goal.returns-in-Broken
-returns-in-Broken c = λ kinds. next-broken kinds _ _ 3 c.in-Broken.is
-
-pub returns-in-Deep : goal.returns-in-Deep
-returns-in-Deep c = λ kinds. next-deep kinds _ _ 3 c.in-Deep.is
+returns-else-three_letters c = λ kinds. sym (passed_over _ _ (sym (c.three_letters.ensures kinds) ∙ c.if-three_letters.false))

@@ -1,8 +1,12 @@
-use Rattle.conditions.proofs.Words.{one-between, none_between}
+use Prim.Native.Nat.{◌+◌}
+use mathlib.Core.Path.{sym, ap, ◌∙◌}
+use native.Mathlib.Numerals.{add-one}
+use lib.Dec.{eqb}
+use Rattle.conditions.proofs.Words.{toks-length}
 use Rattle.conditions.proofs.alone.Goals as goal
 
-pub returns-then-n-eq0 : goal.returns-then-n-eq0
-returns-then-n-eq0 c = λ kinds. none_between _ _ (c.left-n.ensures kinds) c.if-n-eq0.true
-
 pub returns : goal.returns
-returns c = λ kinds. one-between _ _ (c.left-n.ensures kinds) (c.left.ensures kinds) c.if-n-eq0.false
+returns c = λ kinds. let a = c.args in
+    let h = c.saturating_sub.ensures ∙ sym (toks-length kinds a.code.now a.here) in
+    let x = ap (λ n. n + 1) (c.saturating_sub-2.ensures ∙ sym (toks-length kinds a.code.now a.at)) ∙ add-one _ in
+    λ i. eqb (h i) (x i)

@@ -1,22 +1,34 @@
--- `line_fields` meets its contract: one law for each kind of line. Assumes nothing.
-use mathlib.Core.Path.{refl}
-use Rattle.deck_reading.proofs.Places.{no-line, models-line, branch-if-line, counts-line, word_line, sets-line}
+use mathlib.Core.Path.{◌∙◌, ap}
+use Rattle.deck_reading.proofs.Places.{past-place, bare-line, models-line, branch-if-line, counts-line, sets-line}
+use lib.ListN.{drop}
 use Rattle.deck_reading.proofs.line_fields.Goals as goal
 
-pub returns-then-end-at : goal.returns-then-end-at
-returns-then-end-at c = no-line _ _ c.if-end-at.true
+pub returns-in-Passes : goal.returns-in-Passes
+returns-in-Passes c =
+    let s = c.args.s.now in
+    let first = ap (λ n. drop n s) c.unwrap_or-first.ensures ∙ past-place s _ _ c.reach.ensures in
+    bare-line s _ _ first _ c.in-Passes.is c.does_at-does.ensures
 
-pub returns-then-does-eq4 : goal.returns-then-does-eq4
-returns-then-does-eq4 c = models-line _ _ _ _ c.if-does-eq4.true c.behind_run-operation.ensures c.behind_run-operand.ensures
+pub returns-in-Models : goal.returns-in-Models
+returns-in-Models c =
+    let s = c.args.s.now in
+    let first = ap (λ n. drop n s) c.unwrap_or-first.ensures ∙ past-place s _ _ c.reach.ensures in
+    models-line s _ _ first _ c.in-Models.is _ _ c.behind_run-operation.ensures c.behind_run-operand.ensures c.does_at-does.ensures
 
-pub returns-then-does-eq5 : goal.returns-then-does-eq5
-returns-then-does-eq5 c = branch-if-line _ _ _ c.if-does-eq5.true c.behind_two-operand.ensures
+pub returns-in-BranchesIf : goal.returns-in-BranchesIf
+returns-in-BranchesIf c =
+    let s = c.args.s.now in
+    let first = ap (λ n. drop n s) c.unwrap_or-first.ensures ∙ past-place s _ _ c.reach.ensures in
+    branch-if-line s _ _ first _ c.in-BranchesIf.is _ c.behind_two.ensures c.does_at-does.ensures
 
-pub returns-then-does-eq7 : goal.returns-then-does-eq7
-returns-then-does-eq7 c = counts-line _ _ c.if-does-eq7.true
+pub returns-in-Counts : goal.returns-in-Counts
+returns-in-Counts c =
+    let s = c.args.s.now in
+    let first = ap (λ n. drop n s) c.unwrap_or-first.ensures ∙ past-place s _ _ c.reach.ensures in
+    counts-line s _ _ first _ c.in-Counts.is c.does_at-does.ensures
 
-pub returns-then-does-lt8 : goal.returns-then-does-lt8
-returns-then-does-lt8 c = word_line _ _ _ refl c.if-does-lt8.true c.if-does-eq4.false c.if-does-eq5.false c.if-does-eq7.false
-
-pub returns : goal.returns
-returns c = sets-line _ _ _ _ refl c.if-does-lt8.false c.behind_run-operand-2.ensures
+pub returns-in-Sets : goal.returns-in-Sets
+returns-in-Sets c =
+    let s = c.args.s.now in
+    let first = ap (λ n. drop n s) c.unwrap_or-first.ensures ∙ past-place s _ _ c.reach.ensures in
+    sets-line s _ _ first _ c.in-Sets.field-0 c.in-Sets.is _ c.behind_run.ensures c.does_at-does.ensures

@@ -1,4 +1,3 @@
--- `read_string` meets its contract. Assumes nothing.
 use Rattle.deck_reading.proofs.Readers.{string-read}
 use Rattle.deck_reading.proofs.read_string.Goals as goal
 

@@ -1,16 +1,14 @@
-use Prim.Native.Nat.{◌+◌}
-use native.Mathlib.Omega.{arith}
-use mathlib.Core.Path.{sym, ◌∙◌}
-use mathlib.Core.Bool.{◌&&◌, not}
-use lib.Dec.{eqb}
-use lib.ListN.{length}
-use Rattle.declared.proofs.Starts.{start-inside, one-is}
+use mathlib.Core.Path.{ap, sym, ◌∙◌}
+use Rattle.declared.specs.Declared.{found}
+use Rattle.declared.proofs.Starts.{start_is, one_none, one-found}
 use Rattle.declared.proofs.is_one_symbol.Goals as goal
 
-pub overflow_add-result : goal.overflow_add-result
-overflow_add-result c =
-    omega (arith, c.start_length-name.ensures, start-inside c.args.s.now)
+pub returns-in-Some : goal.returns-in-Some
+returns-in-Some c =
+    let s = c.args.s.now in
+    λ q. one-found s q _ (sym (ap found c.in-Some.is) ∙ (c.start_symbol.ensures q ∙ start_is q s))
 
-pub returns : goal.returns
-returns c =
-    λ q. (λ i. let n = c.start_length-name.ensures i in not (eqb n 0) && eqb (n + 1) (length c.args.s.now)) ∙ sym (one-is q c.args.s.now)
+pub returns-in-None : goal.returns-in-None
+returns-in-None c =
+    let s = c.args.s.now in
+    λ q. one_none s q (sym (ap found c.in-None.is) ∙ (c.start_symbol.ensures q ∙ start_is q s))

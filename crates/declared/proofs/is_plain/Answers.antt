@@ -1,42 +1,27 @@
--- `declared::is_plain` meets its contract: the text from here on is plain if the whole is. Assumes nothing.
-use borrow.Author.Rules.{rules}
-use Prim.Native.Nat.{◌≤◌, ◌<◌}
+-- `declared::is_plain` meets its contract: what is left of the text is plain if the whole is. Assumes nothing.
+use Prim.Native.Nat.{◌<◌}
 use native.Mathlib.Omega.{arith}
-use mathlib.Core.Path.{refl, sym, ◌∙◌}
-use lib.ListN.{length}
+use mathlib.Core.Path.{ap, sym, ◌∙◌}
+use lib.ListN.{length, drop}
+use borrow.Author.Tests.{eqb-true, eqb-false}
 use Rattle.declared.proofs.Unmarked.{plain-by-text}
-use Rattle.declared.proofs.Starts.{further, plain-told, plain-stop, plain-further, plain_end}
+use Rattle.declared.proofs.Starts.{plain_from, part-all, plain-told, plain-stop, plain-further, plain_end}
 use Rattle.declared.proofs.is_plain.Goals as goal
 
-pub loop-at-init : goal.loop-at-init
-loop-at-init c =
-    (omega arith, refl)
+pub returns-then-rest-second : goal.returns-then-rest-second
+returns-then-rest-second c =
+    let t = c.loop-rest.rest.now in
+    let some : 0 < length t = omega (arith, eqb-false _ _ (sym c.is_empty.ensures ∙ c.loop-rest-test.true)) in
+    λ q. sym (plain-by-text q c.args.s.now ∙ (c.loop-rest.invariant ∙ plain-stop t some (plain-told t c.byte-second.ensures c.if-rest-second.true)))
 
-pub returns-then-first-second : goal.returns-then-first-second
-returns-then-first-second c =
-    let s = c.args.s.now in
-    let lt : c.loop-at.at < length s = search rules in
-    λ q. sym (plain-by-text q s ∙ (c.loop-at.invariant.1 ∙ plain-stop s c.loop-at.at lt (plain-told s c.loop-at.at c.byte-second.ensures c.if-first-second.true)))
-
-pub overflow_add-at-in-loop-at : goal.overflow_add-at-in-loop-at
-overflow_add-at-in-loop-at c =
-    let lt : c.loop-at.at < length c.args.s.now = search rules in
-    omega (arith, c.piece_length-at.ensures, (further c.args.s.now c.loop-at.at lt).1)
-
-pub loop-at-smaller : goal.loop-at-smaller
-loop-at-smaller c =
-    let lt : c.loop-at.at < length c.args.s.now = search rules in
-    omega (arith, c.piece_length-at.ensures, (further c.args.s.now c.loop-at.at lt).0, (further c.args.s.now c.loop-at.at lt).1)
-
-pub loop-at-preserved : goal.loop-at-preserved
-loop-at-preserved c =
-    let s = c.args.s.now in
-    let lt : c.loop-at.at < length s = search rules in
-    let e = c.piece_length-at.ensures in
-    (omega (arith, e, (further s c.loop-at.at lt).1), c.loop-at.invariant.1 ∙ plain-further s c.loop-at.at lt _ (plain-told s c.loop-at.at c.byte-second.ensures c.if-first-second.false) e)
+pub loop-rest-preserved : goal.loop-rest-preserved
+loop-rest-preserved c =
+    let t = c.loop-rest.rest.now in
+    let some : 0 < length t = omega (arith, eqb-false _ _ (sym c.is_empty.ensures ∙ c.loop-rest-test.true)) in
+    c.loop-rest.invariant
+    ∙ (plain-further t some (plain-told t c.byte-second.ensures c.if-rest-second.false)
+    ∙ (ap (λ n. plain_from (drop n t)) (sym c.piece_length.ensures.value) ∙ ap plain_from (sym (part-all t c.piece_length.result))))
 
 pub returns : goal.returns
 returns c =
-    let s = c.args.s.now in
-    let end : length s ≤ c.loop-at.at = search rules in
-    λ q. sym (plain-by-text q s ∙ (c.loop-at.invariant.1 ∙ plain_end s c.loop-at.at end))
+    λ q. sym (plain-by-text q c.args.s.now ∙ (c.loop-rest.invariant ∙ plain_end c.loop-rest.rest.now (eqb-true _ _ (sym c.is_empty.ensures ∙ c.loop-rest-test.false))))

@@ -1,13 +1,10 @@
-use mathlib.Core.Path.{sym}
+use mathlib.Core.Path.{◌∙◌}
+use lib.ListN.{take}
+use Rattle.text.specs.Bytes.{bytes}
 use Rattle.rules.specs.Fields.{starts_with}
-use Rattle.declaring.proofs.Tables.{too_short}
+use Rattle.declaring.proofs.Tables.{starts-told}
 use Rattle.declaring.proofs.begins_sys.Goals as goal
-
-pub returns-then-name-lt3 : goal.returns-then-name-lt3
-returns-then-name-lt3 c =
-    sym (too_short c.args.name.now c.if-name-lt3.true)
 
 pub returns : goal.returns
 unfolding starts_with
-returns c =
-    c.equal.ensures
+returns c = c.starts_with.ensures.value ∙ starts-told (bytes "SYS") (take 3 c.args.name.now)

@@ -1,41 +1,40 @@
--- `declaring::declares_wrongly` meets its contract: the symbols from here on are declared wrongly if all are. Assumes nothing.
-use borrow.Author.Rules.{rules}
-use Prim.Native.Nat.{◌≤◌, ◌<◌}
-use native.Mathlib.Omega.{arith}
-use mathlib.Core.Path.{ap, sym, ◌∙◌}
-use lib.ListN.{length}
+-- `declaring::declares_wrongly` meets its contract: the symbols still to come are declared wrongly if all are. Assumes nothing.
+use Rattle.std.proofs.Common.{◌≡◌, ap, sym, ◌∙◌, ◌||◌}
 use Rattle.rules.specs.Faults.{declares_wrongly}
-use Rattle.declaring.specs.Declared.{is_taken}
-use Rattle.declaring.proofs.Symbols.{symbols-none, symbols-all, symbols-done, wrong-stop, wrong-next}
+use Rattle.operands.specs.Symbols.{symbols_left}
+use Rattle.declaring.specs.Declared.{symbols_in, is_taken, is_wrong}
+use Rattle.declaring.proofs.Symbols.{wrong-stop, wrong-next}
+use Rattle.declaring.proofs.Tables.{taken-told}
+use Rattle.declaring.proofs.declares_wrongly.Goals.{After-symbol_among-later}
 use Rattle.declaring.proofs.declares_wrongly.Goals as goal
 
-pub returns-then-operand-eq0 : goal.returns-then-operand-eq0
-unfolding declares_wrongly
-returns-then-operand-eq0 c =
-    let a = c.args in
-    sym (ap (declares_wrongly (is_taken a.own.now a.global.now)) (symbols-none a.operand.now c.if-operand-eq0.true))
+-- what is tested of the name
+tested : (c : After-symbol_among-later) → (c.begins_sys-system.result || ((c.is_among-mine.result || c.is_among-theirs.result) || c.symbol_among-later.result))
+    ≡ is_wrong (is_taken c.args.own.now c.args.global.now) (symbols_left c.next.new.self) c.in-Some.name.now
+tested c = λ i.
+    c.begins_sys-system.ensures i
+    || (taken-told c.args.own.now c.args.global.now c.in-Some.name.now c.is_among-mine.ensures c.is_among-theirs.ensures i || c.symbol_among-later.ensures i)
 
-pub loop-at-init : goal.loop-at-init
-loop-at-init c =
+pub loop-name-init : goal.loop-name-init
+unfolding symbols_in
+loop-name-init c =
     let a = c.args in
-    (omega arith, ap (declares_wrongly (is_taken a.own.now a.global.now)) (symbols-all a.operand.now c.if-operand-eq0.false))
+    ap (declares_wrongly (is_taken a.own.now a.global.now)) (sym c.of-symbols.ensures)
 
-pub returns-then-starts_wrongly : goal.returns-then-starts_wrongly
-returns-then-starts_wrongly c =
-    let a = c.args in
-    let le : c.loop-at.at ≤ length a.operand.now = search rules in
-    sym (c.loop-at.invariant.1 ∙ wrong-stop a.operand.now c.loop-at.at _ le c.bare_at-end.ensures.value (is_taken a.own.now a.global.now) c.starts_wrongly.ensures c.if-starts_wrongly.true)
+pub returns-then-system-mine : goal.returns-then-system-mine
+returns-then-system-mine c =
+    let before = is_taken c.args.own.now c.args.global.now in
+    sym
+    (c.loop-name.invariant
+    ∙ (ap (declares_wrongly before) c.in-Some.ensures.steps ∙ wrong-stop before _ _ (tested (goal.at.returns-then-system-mine c).After-symbol_among-later) c.if-system-mine.true))
 
-pub loop-at-preserved : goal.loop-at-preserved
-loop-at-preserved c =
-    let a = c.args in
-    let le : c.loop-at.at ≤ length a.operand.now = search rules in
-    let e = c.bare_at-end.ensures in
-    (omega (arith, e.lower_bound.1, le), c.loop-at.invariant.1 ∙ wrong-next a.operand.now c.loop-at.at _ le e.value (is_taken a.own.now a.global.now) c.starts_wrongly.ensures c.if-starts_wrongly.false)
+pub loop-name-preserved : goal.loop-name-preserved
+loop-name-preserved c =
+    let before = is_taken c.args.own.now c.args.global.now in
+    c.loop-name.invariant
+    ∙ (ap (declares_wrongly before) c.in-Some.ensures.steps ∙ wrong-next before _ _ (tested (goal.at.loop-name-preserved c).After-symbol_among-later) c.if-system-mine.false)
 
 pub returns : goal.returns
 unfolding declares_wrongly
 returns c =
-    let a = c.args in
-    let past : length a.operand.now < c.loop-at.at = search rules in
-    sym (c.loop-at.invariant.1 ∙ ap (declares_wrongly (is_taken a.own.now a.global.now)) (symbols-done a.operand.now c.loop-at.at past))
+    sym (c.loop-name.invariant ∙ ap (declares_wrongly (is_taken c.args.own.now c.args.global.now)) c.in_default.ensures.steps.0)

@@ -1,46 +1,22 @@
--- `declaring::new_count` meets its contract: what is told and what the symbols from here on count is all. Assumes nothing.
-use borrow.Author.Rules.{rules}
-use Prim.Native.Nat.{◌-◌, ◌≤◌, ◌<◌}
-use native.Mathlib.Omega.{arith}
-use mathlib.Core.Path.{ap, sym}
-use lib.ListN.{length, take, drop}
-use Rattle.rules.specs.Choice.{count}
+use Rattle.std.proofs.Common.{length, arith, rules, tests, ap, ◌<◌, ◌^◌, ◌∙◌}
+use mathlib.Core.Logic.{inl}
+use Rattle.std.proofs.lemmas.Iterator.Consumers.{count_from_yields_List, YieldsList-from_first, YieldsList-from_filter, YieldsList-at}
 use Rattle.names.specs.Names.{names_in}
-use Rattle.declaring.specs.Declared.{is_new}
-use Rattle.declaring.proofs.Symbols.{symbols-none, symbols-all, symbols-done, count-once, count-on}
+use Rattle.parts.proofs.Chains.{count-listed}
+use Rattle.operands.specs.Symbols.{symbols_left}
+use Rattle.declaring.specs.Declared.{symbols_in, is_new}
+use Rattle.declaring.proofs.Symbols.{symbols-few}
 use Rattle.declaring.proofs.new_count.Goals as goal
 
-pub returns-then-operand-eq0 : goal.returns-then-operand-eq0
-unfolding count
-returns-then-operand-eq0 c =
-    let a = c.args in
-    sym (ap (count (is_new (names_in a.shared.now))) (symbols-none a.operand.now c.if-operand-eq0.true))
-
-pub loop-at-init : goal.loop-at-init
-loop-at-init c =
-    let a = c.args in
-    let e = ap (count (is_new (names_in a.shared.now))) (symbols-all a.operand.now c.if-operand-eq0.false) in
-    (omega arith, omega arith, omega (arith, e))
-
-pub overflow_add-told : goal.overflow_add-told
-overflow_add-told c =
-    let a = c.args in
-    let le : c.loop-at.at ≤ length a.operand.now = search rules in
-    omega (arith, c.loop-at.invariant.0, le, c.new_start_count-told.ensures, count-once (is_new (names_in a.shared.now)) (take (c.bare_at-end.result - c.loop-at.at) (drop c.loop-at.at a.operand.now)))
-
-pub loop-at-preserved : goal.loop-at-preserved
-loop-at-preserved c =
-    let a = c.args in
-    let le : c.loop-at.at ≤ length a.operand.now = search rules in
-    let e = c.bare_at-end.ensures in
-    let one = count-once (is_new (names_in a.shared.now)) (take (c.bare_at-end.result - c.loop-at.at) (drop c.loop-at.at a.operand.now)) in
-    let n = count-on a.operand.now c.loop-at.at _ le e.value (is_new (names_in a.shared.now)) in
-    (omega (arith, c.loop-at.invariant.0, e.lower_bound.0, c.new_start_count-told.ensures, one), omega (arith, e.lower_bound.1, le), omega (arith, c.loop-at.invariant.2, n, c.new_start_count-told.ensures))
+pub count-requires-clause-fits : goal.count-requires-clause-fits
+unfolding symbols_in
+count-requires-clause-fits c =
+    let bound : length c.args.operand.now < 2 ^ 63 = search rules in
+    inl (omega (arith, bound, symbols-few c.args.operand.now, ap length c.of.ensures, ap (λ it. length (symbols_left it)) c.filter.ensures.source))
 
 pub returns : goal.returns
-unfolding count
+unfolding symbols_in
 returns c =
-    let a = c.args in
-    let past : length a.operand.now < c.loop-at.at = search rules in
-    let n = ap (count (is_new (names_in a.shared.now))) (symbols-done a.operand.now c.loop-at.at past) in
-    omega (arith, c.loop-at.invariant.2, n)
+    count_from_yields_List _ _ c.count.ensures.ran
+    (YieldsList-from_filter _ (is_new (names_in c.args.shared.now)) (YieldsList-at c.filter.ensures.source (YieldsList-from_first (λ n. n.now) symbols_left _ c.of.ensures)) c.filter.ensures.closure (λ x b q k. search (rules, tests)))
+    ∙ count-listed (is_new (names_in c.args.shared.now)) _

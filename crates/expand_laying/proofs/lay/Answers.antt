@@ -1,6 +1,5 @@
 -- `laying::lay` meets its contract. Assumes nothing.
 use native.Mathlib.Omega.{arith}
-use mathlib.Core.Path.{refl}
 use Rattle.expand_laying.proofs.Fronts.{at-most-left, joined-size, put-within, laid-two, laid-three}
 use borrow.Author.Rules.{rules}
 use Rattle.expand_laying.proofs.lay.Goals as goal
@@ -11,11 +10,11 @@ add-start-requires c = (search rules, at-most-left _ _ _ c.requires.1, c.require
 pub put-operated-requires : goal.put-operated-requires
 put-operated-requires c = let size = joined-size _ _ _ _ _ _ _ c.add-start.ensures in (search rules, omega arith, c.requires.2, c.requires.5, omega arith)
 
-pub returns-then-third-eq0 : goal.returns-then-third-eq0
-returns-then-third-eq0 c = laid-two _ _ _ _ _ _ _ _ _ _ _ _ (refl, refl) c.add-start.ensures c.put-operated.ensures c.if-third-eq0.true
+pub returns-then-m-eq0 : goal.returns-then-m-eq0
+returns-then-m-eq0 c = laid-two _ _ _ _ _ _ _ _ _ _ _ _ c.spaces.ensures c.add-start.ensures c.put-operated.ensures c.if-m-eq0.true
 
 pub put-requires : goal.put-requires
 put-requires c = let size = joined-size _ _ _ _ _ _ _ c.add-start.ensures in let next = put-within _ _ _ _ _ _ _ (omega arith) c.put-operated.ensures in (search rules, omega arith, c.requires.3, c.requires.6, omega arith)
 
 pub returns : goal.returns
-returns c = laid-three _ _ _ _ _ _ _ _ _ _ _ _ (refl, refl) c.add-start.ensures c.put-operated.ensures _ _ c.if-third-eq0.false c.put.ensures
+returns c = laid-three _ _ _ _ _ _ _ _ _ _ _ _ c.spaces.ensures c.add-start.ensures c.put-operated.ensures _ _ c.if-m-eq0.false c.put.ensures

@@ -3,4 +3,4 @@ use Rattle.expand_steps.proofs.Acting.{refused-line}
 use Rattle.expand_steps.proofs.refuses.Goals as goal
 
 pub returns : goal.returns
-returns c = λ left. refused-line c.args.run c.requires.1 _ _ _ left c.requires.2 c.requires.3 c.stop.ensures
+returns c = λ left. refused-line c.args.run c.requires.1 _ _ _ left c.stop.ensures

@@ -1,20 +1,14 @@
--- `is-word` meets its contract: no space before the place that is reached, and what is left decides. Assumes nothing.
-use mathlib.Core.Path.{sym, ◌∙◌}
-use Rattle.expand_titles.proofs.Places.{too-long, short-enough, space-found, space-not, none_left}
-use borrow.Author.Rules.{rules}
+use Rattle.std.proofs.Common.{rules, tests, ◌∙◌, ap, ◌&&◌, leb, length}
+use Rattle.std.proofs.lemmas.Iterator.{YieldsList-from_slice}
+use Rattle.std.proofs.lemmas.Iterator.Search.{all_from_yields_List}
+use Rattle.rules.specs.Fields.{is_no_space}
+use Rattle.rules.proofs.Listed.{every-listed}
+use Rattle.tables.specs.Titles.{fits_row}
 use Rattle.expand_titles.proofs.is_word.Goals as goal
 
-pub returns-then-s-gt8 : goal.returns-then-s-gt8
-returns-then-s-gt8 c = too-long _ c.if-s-gt8.true
-
-pub loop-i-init : goal.loop-i-init
-loop-i-init c = (search rules, short-enough _ c.if-s-gt8.false)
-
-pub returns-then-s-i-eq32 : goal.returns-then-s-i-eq32
-returns-then-s-i-eq32 c = space-found c.args.s.now c.loop-i.i (search rules) c.if-s-i-eq32.true ∙ c.loop-i.invariant.1
-
-pub loop-i-preserved : goal.loop-i-preserved
-loop-i-preserved c = (search rules, sym (space-not c.args.s.now c.loop-i.i (search rules) c.if-s-i-eq32.false) ∙ c.loop-i.invariant.1)
-
 pub returns : goal.returns
-returns c = none_left c.args.s.now c.loop-i.i (search rules) ∙ c.loop-i.invariant.1
+unfolding fits_row is_no_space
+returns c =
+    let s = c.args.s.now in
+    ap (λ b. leb (length s) 8 && b)
+    (all_from_yields_List is_no_space c.all-spaceless.new.self _ c.all-spaceless.result c.all-spaceless.ensures.ran (YieldsList-from_slice s (cc)) (λ x b q k. search (rules, tests)) ∙ every-listed is_no_space s)

@@ -10,11 +10,11 @@ pub returns-then-is_long_sequence : goal.returns-then-is_long_sequence
 returns-then-is_long_sequence c = first_holds _ _ _ _ (sym c.is_long_sequence.ensures ∙ c.if-is_long_sequence.true)
 
 pub returns-then-has_unknown : goal.returns-then-has_unknown
-returns-then-has_unknown c = second_holds _ _ _ _ (sym c.is_long_sequence.ensures ∙ c.if-is_long_sequence.false) (ap (λ (b : Bytes). unknown_in b) (sym (front_cut c.args.codes.name c.args.code.now)) ∙ (sym c.has_unknown.ensures ∙ c.if-has_unknown.true))
+returns-then-has_unknown c = second_holds _ _ _ _ (sym c.is_long_sequence.ensures ∙ c.if-is_long_sequence.false) (ap (λ (b : Bytes). unknown_in b) (sym (front_cut c.args.statement.codes.name c.args.statement.code.now)) ∙ (sym c.has_unknown.ensures ∙ c.if-has_unknown.true))
 
 pub returns-then-is_used_twice : goal.returns-then-is_used_twice
-returns-then-is_used_twice c = third-holds _ _ _ _ (sym c.is_long_sequence.ensures ∙ c.if-is_long_sequence.false) (ap (λ (b : Bytes). unknown_in b) (sym (front_cut c.args.codes.name c.args.code.now)) ∙ (sym c.has_unknown.ensures ∙ c.if-has_unknown.false)) (sym c.is_used_twice.ensures ∙ c.if-is_used_twice.true)
+returns-then-is_used_twice c = third-holds _ _ _ _ (sym c.is_long_sequence.ensures ∙ c.if-is_long_sequence.false) (ap (λ (b : Bytes). unknown_in b) (sym (front_cut c.args.statement.codes.name c.args.statement.code.now)) ∙ (sym c.has_unknown.ensures ∙ c.if-has_unknown.false)) (sym c.is_used_twice.ensures ∙ c.if-is_used_twice.true)
 
 pub returns : goal.returns
 unfolding part
-returns c = c.has_bad_symbols.ensures ∙ last_says _ _ _ _ (sym c.is_long_sequence.ensures ∙ c.if-is_long_sequence.false) (ap (λ (b : Bytes). unknown_in b) (sym (front_cut c.args.codes.name c.args.code.now)) ∙ (sym c.has_unknown.ensures ∙ c.if-has_unknown.false)) (sym c.is_used_twice.ensures ∙ c.if-is_used_twice.false)
+returns c = c.has_bad_symbols.ensures ∙ last_says _ _ _ _ (sym c.is_long_sequence.ensures ∙ c.if-is_long_sequence.false) (ap (λ (b : Bytes). unknown_in b) (sym (front_cut c.args.statement.codes.name c.args.statement.code.now)) ∙ (sym c.has_unknown.ensures ∙ c.if-has_unknown.false)) (sym c.is_used_twice.ensures ∙ c.if-is_used_twice.false)

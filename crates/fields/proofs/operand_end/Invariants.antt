@@ -7,7 +7,4 @@ use Rattle.fields.proofs.operand_end.Given as goal
 
 abbrev pub invariant-loop-i : goal.invariant-loop-i
 invariant-loop-i l =
-    (l.at ≤ l.i) × (l.i ≤ l.at + (length l.line - l.at)) × (l.seen.depth ≤ l.i) × (operand_end_at l.holds l.line l.at ≡ stops_from l.holds l.line l.i l.seen)
-
-abbrev pub decreases-loop-i : goal.decreases-loop-i
-decreases-loop-i l = length l.line - l.i
+    (l.i ≤ l.at + (length l.line - l.at)) × (l.seen.depth ≤ l.i) × (operand_end_at l.holds l.line l.at ≡ stops_from l.holds l.line l.i l.seen)

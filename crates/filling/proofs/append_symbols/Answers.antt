@@ -1,60 +1,38 @@
--- `append_symbols` meets its contract: the symbols of the parts from here on complete the table. Assumes nothing.
-use borrow.Author.Rules.{rules}
-use Prim.Native.Nat.{◌+◌, ◌*◌, ◌≤◌, ◌<◌}
-use native.Mathlib.Omega.{arith}
-use mathlib.Core.Path.{refl, ap, sym, ◌∙◌}
-use mathlib.Core.List.{List, ◌++◌}
-use lib.ListN.{length, take}
-use Rattle.text.specs.Bytes.{Bytes}
+-- `append_symbols` meets its contract: the symbols still to come complete the table. Assumes nothing.
+use Rattle.std.proofs.Common.{◌≤◌, ◌+◌, ◌*◌, ◌++◌, refl, rules, length, take, arith, ap, sym, ◌∙◌}
 use Rattle.rules.specs.Choice.{any}
 use Rattle.rules.specs.Lexemes.{is_long}
 use Rattle.names.specs.Names.{names_in}
-use Rattle.filling.proofs.Symbols.{symbols-none, symbols-start, symbols-done, part_count}
-use Rattle.filling.proofs.Rows.{first_short, others-short, count-then, names-then, count-end, names-end}
+use Rattle.operands.specs.Symbols.{symbols_left}
+use Rattle.declaring.specs.Declared.{symbols_in}
+use Rattle.declaring.proofs.Symbols.{symbols-few}
+use Rattle.filling.proofs.Symbols.{short, short-others}
+use Rattle.filling.proofs.Rows.{one_more, names-then}
 use Rattle.filling.proofs.append_symbols.Goals as goal
 
-pub returns-then-operand-eq0 : goal.returns-then-operand-eq0
-returns-then-operand-eq0 c =
-    let e = symbols-none c.args.operand.now c.if-operand-eq0.true in
-    record { value = count-end e _ _ refl; table_after = names-end e _ _ refl }
-
-pub loop-at-init : goal.loop-at-init
-loop-at-init c =
+pub loop-name-init : goal.loop-name-init
+unfolding symbols_in
+loop-name-init c =
     let a = c.args in
-    let e = symbols-start a.operand.now c.if-operand-eq0.false in (
+    let all = ap symbols_left c.into_iter-name-iterator.ensures.into_iter_gives ∙ c.of-name-items.ensures in
+    (refl, ap (any is_long) all ∙ c.requires.1, ap (λ ss. a.rows + length ss) all, ap (λ ss. names_in (take (a.rows * 8) a.table.now) ++ ss) all)
+
+pub declare-requires : goal.declare-requires
+declare-requires c =
+    let first = c.in-Some.ensures.steps in
+    (omega (arith, ap length first, c.loop-name.invariant.2, c.loop-name.invariant.0, c.requires.0, symbols-few c.args.operand.now), short _ _ (ap (any is_long) (sym first) ∙ c.loop-name.invariant.1))
+
+pub overflow_add-count : goal.overflow_add-count
+overflow_add-count c = omega (arith, ap length c.in-Some.ensures.steps, c.loop-name.invariant.2, c.requires.0, symbols-few c.args.operand.now)
+
+pub loop-name-preserved : goal.loop-name-preserved
+loop-name-preserved c =
+    let first = c.in-Some.ensures.steps in
+    let room : c.loop-name.count * 8 + 8 ≤ length c.loop-name.table =
+    omega (arith, ap length first, c.loop-name.invariant.2, c.loop-name.invariant.0, c.requires.0, symbols-few c.args.operand.now) in
+    let more = one_more c.loop-name.table c.loop-name.count c.in-Some.name.now refl room (short _ _ (ap (any is_long) (sym first) ∙ c.loop-name.invariant.1)) _ c.declare.ensures in (
       search rules,
-      refl,
-      search rules,
-      ap (any is_long) (sym e) ∙ c.requires.1,
-      ap (λ (ss : List Bytes). a.rows + length ss) (sym e),
-      ap (λ (ss : List Bytes). names_in (take (a.rows * 8) a.table.now) ++ ss) (sym e),
+      short-others _ _ (ap (any is_long) (sym first) ∙ c.loop-name.invariant.1),
+      omega (arith, ap length first, c.loop-name.invariant.2),
+      names-then _ _ _ _ _ (ap (names_in (take (c.loop-name.count * 8) c.loop-name.table) ++◌) (sym first) ∙ c.loop-name.invariant.3) more.1,
     )
-
-pub append_start-count-requires : goal.append_start-count-requires
-append_start-count-requires c =
-    let a = c.args in
-    let le : c.loop-at.at ≤ length a.operand.now = search rules in
-    let h = c.bare_at-end.ensures in
-    let k = part_count a.operand.now c.loop-at.at c.bare_at-end.result in
-    (omega (arith, k, c.requires.0, c.loop-at.invariant.1, c.loop-at.invariant.2, h.lower_bound.1, le), first_short a.operand.now c.loop-at.at _ le h.value c.loop-at.invariant.3)
-
-pub loop-at-preserved : goal.loop-at-preserved
-loop-at-preserved c =
-    let a = c.args in
-    let le : c.loop-at.at ≤ length a.operand.now = search rules in
-    let h = c.bare_at-end.ensures in
-    let k = part_count a.operand.now c.loop-at.at c.bare_at-end.result in
-    let f = c.append_start-count.ensures in (
-      omega (arith, h.lower_bound.1, le),
-      search rules,
-      omega (arith, k, f.value, c.loop-at.invariant.2, h.lower_bound.0),
-      others-short a.operand.now c.loop-at.at _ le h.value c.loop-at.invariant.3,
-      count-then a.operand.now c.loop-at.at _ le h.value c.loop-at.count _ _ c.loop-at.invariant.4 f.value,
-      names-then a.operand.now c.loop-at.at _ le h.value _ _ _ c.loop-at.invariant.5 f.table_after,
-    )
-
-pub returns : goal.returns
-returns c =
-    let past : length c.args.operand.now < c.loop-at.at = search rules in
-    let e = symbols-done c.args.operand.now c.loop-at.at past in
-    record { value = count-end e _ _ c.loop-at.invariant.4; table_after = names-end e _ _ c.loop-at.invariant.5 }

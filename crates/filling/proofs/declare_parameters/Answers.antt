@@ -5,18 +5,18 @@ use mathlib.Core.Bool.{false}
 use Rattle.rules.specs.Choice.{any}
 use Rattle.rules.specs.Lexemes.{is_long}
 use Rattle.declared.proofs.Starts.{start_is}
-use Rattle.filling.proofs.Symbols.{start-count}
+use Rattle.filling.proofs.Symbols.{start-once}
 use Rattle.filling.proofs.Rows.{from_start}
 use Rattle.filling.proofs.declare_parameters.Goals as goal
 
 pub append_start-rows-requires : goal.append_start-rows-requires
 append_start-rows-requires c =
     let n = c.args.name.now in
-    (omega (arith, (start-count n).0, c.requires.0), ap (any is_long) (sym (start_is false n)) ∙ c.requires.1.0)
+    (omega (arith, start-once n, c.requires.0), ap (any is_long) (sym (start_is false n)) ∙ c.requires.1.0)
 
 pub append_symbols-requires : goal.append_symbols-requires
 append_symbols-requires c =
-    let k = (start-count c.args.name.now).0 in
+    let k = start-once c.args.name.now in
     (omega (arith, k, c.append_start-rows.ensures.value, c.requires.0), c.requires.1.1)
 
 pub returns : goal.returns

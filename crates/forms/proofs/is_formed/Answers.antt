@@ -1,19 +1,20 @@
 use mathlib.Core.Path.{◌∙◌}
 use mathlib.Core.Bool.{◌&&◌}
-use Rattle.forms.proofs.Lines.{formed-texts, formed-condition, formed-number, formed-always, formed-set, set_known}
+use Rattle.grammar.specs.Tokens.{toks_at}
+use Rattle.forms.proofs.Lines.{formed-for, formed-always}
 use Rattle.forms.proofs.is_formed.Goals as goal
 
-pub returns-then-does-eq4 : goal.returns-then-does-eq4
-returns-then-does-eq4 c = λ d e. (λ i. c.is_text.ensures i && (c.is_text-then-does-eq4.ensures i && c.is_text-then-does-eq4-2.ensures i)) ∙ formed-texts _ _ d e c.if-does-eq4.true
+pub returns-in-Models : goal.returns-in-Models
+returns-in-Models c = let a = c.args in λ d e. (λ i. c.is_text.ensures i && (c.is_text-in-Models.ensures i && c.is_text-in-Models-2.ensures i)) ∙ formed-for a.nest (toks_at a.kinds.now a.name.now 0) (toks_at a.kinds.now a.operation.now 0) (toks_at a.kinds.now a.operand.now 0) c.in-Models.is d e
 
-pub returns-then-does-eq5 : goal.returns-then-does-eq5
-returns-then-does-eq5 c = λ d e. c.is_condition.ensures ∙ formed-condition _ _ d e c.if-does-eq4.false c.if-does-eq5.true
+pub returns-in-BranchesIf : goal.returns-in-BranchesIf
+returns-in-BranchesIf c = let a = c.args in λ d e. c.is_condition.ensures ∙ formed-for a.nest (toks_at a.kinds.now a.name.now 0) (toks_at a.kinds.now a.operation.now 0) (toks_at a.kinds.now a.operand.now 0) c.in-BranchesIf.is d e
 
-pub returns-then-does-eq7 : goal.returns-then-does-eq7
-returns-then-does-eq7 c = λ d e. c.is_arithmetic.ensures ∙ formed-number _ _ d e c.if-does-eq4.false c.if-does-eq5.false c.if-does-eq7.true
+pub returns-in-Counts : goal.returns-in-Counts
+returns-in-Counts c = let a = c.args in λ d e. c.is_arithmetic.ensures ∙ formed-for a.nest (toks_at a.kinds.now a.name.now 0) (toks_at a.kinds.now a.operation.now 0) (toks_at a.kinds.now a.operand.now 0) c.in-Counts.is d e
 
-pub returns-then-does-lt8 : goal.returns-then-does-lt8
-returns-then-does-lt8 c = λ d e. formed-always _ _ d e c.if-does-eq4.false c.if-does-eq5.false c.if-does-eq7.false c.if-does-lt8.true
+pub returns-in-Sets : goal.returns-in-Sets
+returns-in-Sets c = let a = c.args in λ d e. (λ i. c.is_named_by.ensures i && c.is_operand_of.ensures i) ∙ formed-for a.nest (toks_at a.kinds.now a.name.now 0) (toks_at a.kinds.now a.operation.now 0) (toks_at a.kinds.now a.operand.now 0) c.in-Sets.is d e
 
-pub returns : goal.returns
-returns c = λ d e. formed-set _ _ d e c.if-does-eq4.false c.if-does-eq5.false c.if-does-eq7.false c.if-does-lt8.false (c.is_named_by.ensures _ (set_known d e c.if-does-lt8.false)) (c.is_operand_of.ensures _ (set_known d e c.if-does-lt8.false))
+pub returns-in-Passes : goal.returns-in-Passes
+returns-in-Passes c = let a = c.args in formed-always a.nest (toks_at a.kinds.now a.name.now 0) (toks_at a.kinds.now a.operation.now 0) (toks_at a.kinds.now a.operand.now 0) c.in-Passes.is

@@ -1,11 +1,8 @@
-use Rattle.forms.proofs.Read.{whole-at, whole-broken, whole-deep}
+use Rattle.forms.proofs.Read.{whole-at, whole-off}
 use Rattle.forms.proofs.whole.Goals as goal
 
-pub returns-in-At : goal.returns-in-At
-returns-in-At c = λ kinds. whole-at kinds _ c.in-At.is
+pub returns-in-Ok : goal.returns-in-Ok
+returns-in-Ok c = λ kinds. whole-at kinds _ c.in-Ok.is
 
-pub returns-in-Broken : goal.returns-in-Broken
-returns-in-Broken c = λ kinds. whole-broken _ c.in-Broken.is
-
-pub returns-in-Deep : goal.returns-in-Deep
-returns-in-Deep c = λ kinds. whole-deep _ c.in-Deep.is
+pub returns-in-Err : goal.returns-in-Err
+returns-in-Err c = λ kinds. whole-off kinds _ c.in-Err.is

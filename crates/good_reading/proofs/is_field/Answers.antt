@@ -1,4 +1,4 @@
-use borrow.Author.Rules.{rules}
+use native.Mathlib.Omega.{arith}
 use Prim.Native.Nat.{◌≤◌, ◌<◌}
 use mathlib.Core.Path.{refl, sym, ◌∙◌}
 use lib.ListN.{length}
@@ -8,19 +8,19 @@ use Rattle.good_reading.proofs.is_field.Goals as goal
 
 pub loop-i-init : goal.loop-i-init
 unfolding no_trail
-loop-i-init c = (search rules, refl)
+loop-i-init c = refl
 
 pub returns-then-not-reads : goal.returns-then-not-reads
 returns-then-not-reads c =
-    let h : c.loop-i.i < length c.args.code.now = search rules in
-    sym (read-start _ _ ∙ c.loop-i.invariant.1 ∙ read-stop _ _ c.loop-i.i c.loop-i.trail h refl c.byte-next.ensures (sym c.reads.ensures ∙ c.if-not-reads.true))
+    let h : c.loop-i.i < length c.args.code.now = c.loop-i-test.true in
+    sym (read-start _ _ ∙ c.loop-i.invariant ∙ read-stop _ _ c.loop-i.i c.loop-i.trail h refl c.byte.ensures (sym c.reads.ensures ∙ c.if-not-reads.true))
 
 pub loop-i-preserved : goal.loop-i-preserved
 loop-i-preserved c =
-    let h : c.loop-i.i < length c.args.code.now = search rules in
-    (search rules, c.loop-i.invariant.1 ∙ read_next _ _ c.loop-i.i c.loop-i.trail h refl c.byte-next.ensures (sym c.reads.ensures ∙ c.if-not-reads.false) c.trail_after-trail.ensures)
+    let h : c.loop-i.i < length c.args.code.now = c.loop-i-test.true in
+    (c.loop-i.invariant ∙ read_next _ _ c.loop-i.i c.loop-i.trail h refl c.byte.ensures (sym c.reads.ensures ∙ c.if-not-reads.false) c.trail_after-trail.ensures)
 
 pub returns : goal.returns
 returns c =
-    let h : length c.args.code.now ≤ c.loop-i.i = search rules in
-    sym (read-start _ _ ∙ c.loop-i.invariant.1 ∙ read-end _ _ c.loop-i.i c.loop-i.trail h)
+    let h : length c.args.code.now ≤ c.loop-i.i = omega (arith, c.loop-i-test.false) in
+    sym (read-start _ _ ∙ c.loop-i.invariant ∙ read-end _ _ c.loop-i.i c.loop-i.trail h)

@@ -1,14 +1,18 @@
-use Rattle.good_reading.proofs.Lines.{read-models, read-holds, read_none, read-operand}
+use mathlib.Core.Path.{◌∙◌}
+use Rattle.good_reading.proofs.Lines.{same-b, read-models, read-branch, read-sets, read-counts, read_none}
 use Rattle.good_reading.proofs.is_read_line.Goals as goal
 
-pub returns-then-does-eq4 : goal.returns-then-does-eq4
-returns-then-does-eq4 c = let a = c.args in read-models a.does a.name.now a.operation.now a.operand.now c.if-does-eq4.true c.is_word_field.ensures c.starts_plainly.ensures c.is_model_operation.ensures c.is_operand.ensures
+pub returns-in-Models : goal.returns-in-Models
+returns-in-Models c = let a = c.args in read-models a.does a.name.now a.operation.now a.operand.now c.in-Models.is c.is_word_field.ensures c.starts_plainly.ensures c.is_model_operation.ensures c.is_operand.ensures
 
-pub returns-then-does : goal.returns-then-does
-returns-then-does c = let a = c.args in read-holds a.does a.name.now a.operation.now a.operand.now c.if-does-eq4.false c.if-does.true c.is_operand-then-does.ensures
+pub returns-in-BranchesIf : goal.returns-in-BranchesIf
+returns-in-BranchesIf c = let a = c.args in read-branch a.does a.name.now a.operation.now a.operand.now c.in-BranchesIf.is c.is_operand-in-BranchesIf.ensures
 
-pub returns-then-does-lt7 : goal.returns-then-does-lt7
-returns-then-does-lt7 c = let a = c.args in read_none a.does a.name.now a.operation.now a.operand.now c.if-does-eq4.false c.if-does.false c.if-does-lt7.true
+pub returns-in-Sets : goal.returns-in-Sets
+returns-in-Sets c = let a = c.args in read-sets a.does a.name.now a.operation.now a.operand.now c.in-Sets.is (c.eq.ensures ∙ same-b c.in-Sets.set) c.is_operand-in-Sets.ensures
 
-pub returns : goal.returns
-returns c = let a = c.args in read-operand a.does a.name.now a.operation.now a.operand.now c.if-does-eq4.false c.if-does.false c.if-does-lt7.false c.is_operand-2.ensures
+pub returns-in-Counts : goal.returns-in-Counts
+returns-in-Counts c = let a = c.args in read-counts a.does a.name.now a.operation.now a.operand.now c.in-Counts.is c.is_operand-in-Counts.ensures
+
+pub returns-in-Passes : goal.returns-in-Passes
+returns-in-Passes c = let a = c.args in read_none a.does a.name.now a.operation.now a.operand.now c.in-Passes.is

@@ -8,8 +8,10 @@ use Rattle.good_reading.proofs.trail_after.Goals as goal
 pub returns : goal.returns
 unfolding trail_after
 returns c = λ i. record {
-  second = c.args.trail.first;
-  first = c.last_of-last.ensures i;
-  quoted = (c.quoted_after-quoted.ensures ∙ (λ j. choose (eqb (c.text_of-text.ensures j) 39) (c.args.quotes && not c.args.trail.quoted) c.args.trail.quoted)) i;
+  before = record {
+    second = c.args.trail.before.first;
+    first = c.last_of.ensures i;
+    quoted = (c.quoted_after.ensures ∙ (λ j. choose (eqb (c.text_of-text.ensures j) 39) (c.args.quotes && not c.args.trail.before.quoted) c.args.trail.before.quoted)) i;
+  };
   odd = eqb (c.text_of-text.ensures i) 38 && not c.args.trail.odd;
 }

@@ -1,8 +1,11 @@
-use Rattle.good_tests.proofs.Order.{text-precedes, other-precedes}
+use Rattle.good_tests.proofs.Order.{passes-leads, text-leads, other-leads}
 use Rattle.good_tests.proofs.may_precede.Goals as goal
 
-pub returns-then-does-eq3 : goal.returns-then-does-eq3
-returns-then-does-eq3 c = let a = c.args in text-precedes a.text.now a.does c.if-does-eq3.true c.is_copied_remark.ensures
+pub returns-in-Passes : goal.returns-in-Passes
+returns-in-Passes c = passes-leads c.args.text.now c.args.does c.in-Passes.is
 
-pub returns : goal.returns
-returns c = let a = c.args in other-precedes a.text.now a.does c.if-does-eq3.false
+pub returns-in-Text : goal.returns-in-Text
+returns-in-Text c = text-leads c.args.text.now c.args.does c.in-Text.is c.is_copied_remark.ensures
+
+pub returns-in-Ends : goal.returns-in-Ends
+returns-in-Ends c = other-leads c.args.text.now c.args.does c.in-Ends.is

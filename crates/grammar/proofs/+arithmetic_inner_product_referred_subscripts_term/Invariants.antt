@@ -23,14 +23,14 @@ decreases-subscripts l = 6 * l.nest + 1
 abbrev pub decreases-term : goal.decreases-term
 decreases-term l = 6 * l.nest + 3
 
-abbrev pub invariant-arithmetic-loop-so_far : goal.invariant-arithmetic-loop-so_far
-invariant-arithmetic-loop-so_far l = Loop (sums-of l.nest) l.kinds l.code l.at l.so_far
+abbrev pub invariant-arithmetic-loop-next : goal.invariant-arithmetic-loop-next
+invariant-arithmetic-loop-next l = Loop (sums-of l.nest) l.kinds l.code l.at l.here
 
-abbrev pub decreases-arithmetic-loop-so_far : goal.decreases-arithmetic-loop-so_far
-decreases-arithmetic-loop-so_far l = to_read (sums-of l.nest) l.kinds l.code l.so_far
+abbrev pub decreases-arithmetic-loop-next : goal.decreases-arithmetic-loop-next
+decreases-arithmetic-loop-next l = to_read (sums-of l.nest) l.kinds l.code l.here
 
-abbrev pub invariant-product-loop-so_far : goal.invariant-product-loop-so_far
-invariant-product-loop-so_far l = Loop (products-of l.nest) l.kinds l.code l.at l.so_far
+abbrev pub invariant-product-loop-next : goal.invariant-product-loop-next
+invariant-product-loop-next l = Loop (products-of l.nest) l.kinds l.code l.at l.here
 
-abbrev pub decreases-product-loop-so_far : goal.decreases-product-loop-so_far
-decreases-product-loop-so_far l = to_read (products-of l.nest) l.kinds l.code l.so_far
+abbrev pub decreases-product-loop-next : goal.decreases-product-loop-next
+decreases-product-loop-next l = to_read (products-of l.nest) l.kinds l.code l.here

@@ -13,33 +13,33 @@ use Rattle.grammar.proofs.Numbers.{digit-bounds, digit-some, onward, onward-star
 use Rattle.grammar.proofs.decimal.Goals as goal
 
 -- a digit was read, and the number is one digit longer
-longer : (kinds code : Bytes) (at n here : ℕ) {v : ℕ} → v ≡ plain (toks_at kinds code here) → digit v ≡ true → onward (toks_at kinds code at) n (toks_at kinds code here) ≡ onward (toks_at kinds code at) 0 (toks_at kinds code at)
-    → onward (toks_at kinds code at) (n * 10 + (v - 48)) (toks_at kinds code (here + 1)) ≡ onward (toks_at kinds code at) 0 (toks_at kinds code at)
-longer kinds code at n here {v} read is inv = sym (ap (onward (toks_at kinds code at) n) (text-step kinds code here v read (digit-some v is)) ∙ onward-more _ _ _ _ is) ∙ inv
+longer : (kinds code : Bytes) (at n here : ℕ) {v m : ℕ} → v ≡ plain (toks_at kinds code here) → digit v ≡ true → m ≡ v - 48 → onward (toks_at kinds code at) n (toks_at kinds code here) ≡ onward (toks_at kinds code at) 0 (toks_at kinds code at)
+    → onward (toks_at kinds code at) (n * 10 + m) (toks_at kinds code (here + 1)) ≡ onward (toks_at kinds code at) 0 (toks_at kinds code at)
+longer kinds code at n here {v} read is worth inv = rw worth (sym (ap (onward (toks_at kinds code at) n) (text-step kinds code here v read (digit-some v is)) ∙ onward-more _ _ _ _ is) ∙ inv)
 
-pub loop-at-init : goal.loop-at-init
-loop-at-init c = (omega arith, λ kinds. refl)
+pub loop-n-init : goal.loop-n-init
+loop-n-init c = (omega arith, c.text_at-c.ensures, λ kinds. refl)
 
-pub returns-then-letter : goal.returns-then-letter
-returns-then-letter c = λ kinds inner. tells-broken _ _ ∙ sym (onward-letter _ _ _ c.loop-at.invariant.0 (c.text_at-c.ensures kinds) (sym c.digit.ensures ∙ c.if-not-digit.true) (sym c.letter.ensures ∙ c.if-letter.true)) ∙ c.loop-at.invariant.1 kinds ∙ onward-starts inner _
-
-pub returns-then-not-digit : goal.returns-then-not-digit
-returns-then-not-digit c = λ kinds inner. tells_at _ _ ∙ sym (onward-ends _ _ _ c.loop-at.invariant.0 (c.text_at-c.ensures kinds) (sym c.digit.ensures ∙ c.if-not-digit.true) (sym c.letter.ensures ∙ c.if-letter.false)) ∙ c.loop-at.invariant.1 kinds ∙ onward-starts inner _
-
-pub overflow_sub-n : goal.overflow_sub-n
-overflow_sub-n c = let low = (digit-bounds c.text_at-c.result (sym c.digit.ensures ∙ c.if-not-digit.false)).0 in omega arith
+pub overflow_sub-c : goal.overflow_sub-c
+overflow_sub-c c = let low = (digit-bounds c.loop-n.c (sym c.digit.ensures ∙ c.loop-n-test.true)).0 in omega arith
 
 pub overflow_add-n : goal.overflow_add-n
-overflow_add-n c = let high = (digit-bounds c.text_at-c.result (sym c.digit.ensures ∙ c.if-not-digit.false)).1 in let few = c.loop-at.invariant.0 in omega arith
-
-pub returns-then-n-gt2147483647 : goal.returns-then-n-gt2147483647
-returns-then-n-gt2147483647 c = λ kinds inner. tells-broken _ _ ∙ sym (onward-over _ _ _ c.if-n-gt2147483647.true) ∙ longer kinds _ _ _ _ (c.text_at-c.ensures kinds) (sym c.digit.ensures ∙ c.if-not-digit.false) (c.loop-at.invariant.1 kinds) ∙ onward-starts inner _
+overflow_add-n c = let high = (digit-bounds c.loop-n.c (sym c.digit.ensures ∙ c.loop-n-test.true)).1 in let few = c.loop-n.invariant.0 in omega arith
 
 pub overflow_add-here : goal.overflow_add-here
-overflow_add-here c = let inside = text-inside [] _ _ _ (c.text_at-c.ensures []) (digit-some _ (sym c.digit.ensures ∙ c.if-not-digit.false)) in omega arith
+overflow_add-here c = let inside = text-inside [] _ _ _ (c.loop-n.invariant.1 []) (digit-some _ (sym c.digit.ensures ∙ c.loop-n-test.true)) in omega arith
 
-pub loop-at-smaller : goal.loop-at-smaller
-loop-at-smaller c = let inside = text-inside [] _ _ _ (c.text_at-c.ensures []) (digit-some _ (sym c.digit.ensures ∙ c.if-not-digit.false)) in omega arith
+pub returns-then-n-gt-LARGEST : goal.returns-then-n-gt-LARGEST
+returns-then-n-gt-LARGEST c = λ kinds inner. tells-broken _ _ ∙ sym (onward-over _ _ _ c.if-n-gt-LARGEST.true) ∙ longer kinds _ _ _ _ (c.loop-n.invariant.1 kinds) (sym c.digit.ensures ∙ c.loop-n-test.true) c.from.ensures (c.loop-n.invariant.2 kinds) ∙ onward-starts inner _
 
-pub loop-at-preserved : goal.loop-at-preserved
-loop-at-preserved c = (c.if-n-gt2147483647.false, λ kinds. longer kinds _ _ _ _ (c.text_at-c.ensures kinds) (sym c.digit.ensures ∙ c.if-not-digit.false) (c.loop-at.invariant.1 kinds))
+pub loop-n-smaller : goal.loop-n-smaller
+loop-n-smaller c = let inside = text-inside [] _ _ _ (c.loop-n.invariant.1 []) (digit-some _ (sym c.digit.ensures ∙ c.loop-n-test.true)) in omega arith
+
+pub loop-n-preserved : goal.loop-n-preserved
+loop-n-preserved c = (c.if-n-gt-LARGEST.false, c.text_at-c-in-loop-n.ensures, λ kinds. longer kinds _ _ _ _ (c.loop-n.invariant.1 kinds) (sym c.digit.ensures ∙ c.loop-n-test.true) c.from.ensures (c.loop-n.invariant.2 kinds))
+
+pub returns-then-letter : goal.returns-then-letter
+returns-then-letter c = λ kinds inner. tells-broken _ _ ∙ sym (onward-letter _ _ _ c.loop-n.invariant.0 (c.loop-n.invariant.1 kinds) (sym c.digit.ensures ∙ c.loop-n-test.false) (sym c.letter.ensures ∙ c.if-letter.true)) ∙ c.loop-n.invariant.2 kinds ∙ onward-starts inner _
+
+pub returns : goal.returns
+returns c = λ kinds inner. tells_at _ _ ∙ sym (onward-ends _ _ _ c.loop-n.invariant.0 (c.loop-n.invariant.1 kinds) (sym c.digit.ensures ∙ c.loop-n-test.false) (sym c.letter.ensures ∙ c.if-letter.false)) ∙ c.loop-n.invariant.2 kinds ∙ onward-starts inner _

@@ -1,18 +1,21 @@
-use mathlib.Core.Path.{◌∙◌}
+use mathlib.Core.Path.{◌∙◌, sym}
 use Rattle.rules.specs.Grammar.{deeper}
 use Rattle.rules.specs.Form.{form}
-use Rattle.grammar.proofs.Texts.{scan-starts, scan-ends, scan-less, scan-again}
+use Rattle.grammar.proofs.Texts.{scan-starts, scan-ends, scan-less, scan-again, scan-fails}
 use Rattle.grammar.proofs.Quotes.{goes-quoted, quotes-of, quoted-of}
 use Rattle.grammar.proofs.quoted.Goals as goal
 
-pub loop-so_far-init : goal.loop-so_far-init
-loop-so_far-init c = let a = c.args in scan-starts (quotes-of a.nest) a.kinds.now a.code.now _
+pub loop-here-init : goal.loop-here-init
+loop-here-init c = let a = c.args in scan-starts (quotes-of a.nest) a.kinds.now a.code.now _
 
-pub returns-then-not-more_quoted : goal.returns-then-not-more_quoted
-returns-then-not-more_quoted c = let a = c.args in scan-ends (quotes-of a.nest) a.kinds.now a.code.now _ _ c.loop-so_far.invariant (c.more_quoted.ensures a.kinds.now (deeper form a.nest) ∙ goes-quoted (deeper form a.nest) _) c.if-not-more_quoted.true ∙ quoted-of a.nest _
+pub returns-in_err-here : goal.returns-in_err-here
+returns-in_err-here c = let a = c.args in scan-fails (quotes-of a.nest) a.kinds.now a.code.now _ _ c.loop-here.invariant (sym (c.more_quoted.ensures a.kinds.now (deeper form a.nest) ∙ goes-quoted (deeper form a.nest) _) ∙ c.loop-here-test.true) _ c.quoted_piece.ensures c.in_err-here.was _ c.from_residual.ensures.1 ∙ quoted-of a.nest _
 
-pub loop-so_far-smaller : goal.loop-so_far-smaller
-loop-so_far-smaller c = let a = c.args in scan-less (quotes-of a.nest) a.kinds.now a.code.now _ _ c.loop-so_far.invariant (c.more_quoted.ensures a.kinds.now (deeper form a.nest) ∙ goes-quoted (deeper form a.nest) _) c.if-not-more_quoted.false _ c.add_quoted-so_far.ensures
+pub loop-here-smaller : goal.loop-here-smaller
+loop-here-smaller c = let a = c.args in scan-less (quotes-of a.nest) a.kinds.now a.code.now _ _ c.loop-here.invariant (sym (c.more_quoted.ensures a.kinds.now (deeper form a.nest) ∙ goes-quoted (deeper form a.nest) _) ∙ c.loop-here-test.true) _ c.quoted_piece.ensures c.in_ok-here.was
 
-pub loop-so_far-preserved : goal.loop-so_far-preserved
-loop-so_far-preserved c = let a = c.args in scan-again (quotes-of a.nest) a.kinds.now a.code.now _ _ c.loop-so_far.invariant (c.more_quoted.ensures a.kinds.now (deeper form a.nest) ∙ goes-quoted (deeper form a.nest) _) c.if-not-more_quoted.false _ c.add_quoted-so_far.ensures
+pub loop-here-preserved : goal.loop-here-preserved
+loop-here-preserved c = let a = c.args in scan-again (quotes-of a.nest) a.kinds.now a.code.now _ _ c.loop-here.invariant (sym (c.more_quoted.ensures a.kinds.now (deeper form a.nest) ∙ goes-quoted (deeper form a.nest) _) ∙ c.loop-here-test.true) _ c.quoted_piece.ensures c.in_ok-here.was
+
+pub returns : goal.returns
+returns c = let a = c.args in scan-ends (quotes-of a.nest) a.kinds.now a.code.now _ _ c.loop-here.invariant (sym (c.more_quoted.ensures a.kinds.now (deeper form a.nest) ∙ goes-quoted (deeper form a.nest) _) ∙ c.loop-here-test.false) ∙ quoted-of a.nest _

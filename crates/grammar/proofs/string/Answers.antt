@@ -1,20 +1,19 @@
-use mathlib.Core.Path.{sym, ap, ◌∙◌}
-use mathlib.Core.List.{[]}
-use native.Mathlib.Omega.{arith}
-use Rattle.rules.specs.Grammar.{then, deeper, substringed}
+use mathlib.Core.Path.{◌∙◌}
+use Rattle.rules.specs.Grammar.{deeper, substringed}
 use Rattle.rules.specs.Form.{form}
 use Rattle.grammar.specs.Tokens.{toks_at}
-use Rattle.grammar.specs.Operands.{quoted_run, unquoted_by}
-use Rattle.grammar.proofs.Places.{toks-rest, text-inside}
-use Rattle.grammar.proofs.Answers.{tells-broken}
-use Rattle.grammar.proofs.Quotes.{string-none, string-is}
+use Rattle.grammar.proofs.Answers.{then-on, then-off}
+use Rattle.grammar.proofs.Quotes.{closing_by, text_by, string-is}
 use Rattle.grammar.proofs.string.Goals as goal
 
-pub returns-then-text_at-ne39 : goal.returns-then-text_at-ne39
-returns-then-text_at-ne39 c = let a = c.args in tells-broken _ _ ∙ string-none (deeper form a.nest) _ (c.text_at.ensures a.kinds.now) c.if-text_at-ne39.true
+pub returns-in_err-start : goal.returns-in_err-start
+returns-in_err-start c = let a = c.args in then-off (toks_at a.kinds.now a.code.now) (text_by (deeper form a.nest) (toks_at a.kinds.now a.code.now a.at)) (c.expected.ensures a.kinds.now) c.in_err-start.was _ c.from_residual.ensures.1 ∙ string-is (deeper form a.nest) (toks_at a.kinds.now a.code.now a.at)
 
-pub overflow_add-at : goal.overflow_add-at
-overflow_add-at c = let inside = text-inside [] _ _ _ (c.text_at.ensures []) (omega arith) in omega arith
+pub returns-in_err-end : goal.returns-in_err-end
+returns-in_err-end c = let a = c.args in then-off (toks_at a.kinds.now a.code.now) (closing_by (deeper form a.nest) (toks_at a.kinds.now a.code.now a.at)) c.quoted.ensures c.in_err-end.was _ c.from_residual-in_err-end.ensures.1 ∙ then-on (toks_at a.kinds.now a.code.now) (text_by (deeper form a.nest) (toks_at a.kinds.now a.code.now a.at)) (c.expected.ensures a.kinds.now) c.in_ok-start.was ∙ string-is (deeper form a.nest) (toks_at a.kinds.now a.code.now a.at)
+
+pub returns-in_err-expected : goal.returns-in_err-expected
+returns-in_err-expected c = let a = c.args in then-off (toks_at a.kinds.now a.code.now) (substringed form (deeper form a.nest) (toks_at a.kinds.now a.code.now a.at)) (c.expected-2.ensures a.kinds.now) c.in_err-expected.was _ c.from_residual-in_err-expected.ensures.1 ∙ then-on (toks_at a.kinds.now a.code.now) (closing_by (deeper form a.nest) (toks_at a.kinds.now a.code.now a.at)) c.quoted.ensures c.in_ok-end.was ∙ then-on (toks_at a.kinds.now a.code.now) (text_by (deeper form a.nest) (toks_at a.kinds.now a.code.now a.at)) (c.expected.ensures a.kinds.now) c.in_ok-start.was ∙ string-is (deeper form a.nest) (toks_at a.kinds.now a.code.now a.at)
 
 pub returns : goal.returns
-returns c = let a = c.args in c.substring.ensures (toks_at a.kinds.now a.code.now a.at) ∙ ap (λ r. then r (substringed form (deeper form a.nest) (toks_at a.kinds.now a.code.now a.at))) (c.unquoted.ensures a.kinds.now ∙ ap (λ r. then r unquoted_by) (c.quoted.ensures ∙ ap (quoted_run (deeper form a.nest)) (sym (toks-rest a.kinds.now a.code.now _)))) ∙ string-is (deeper form a.nest) _ (c.text_at.ensures a.kinds.now) c.if-text_at-ne39.false
+returns c = let a = c.args in c.substring.ensures (toks_at a.kinds.now a.code.now a.at) ∙ then-on (toks_at a.kinds.now a.code.now) (substringed form (deeper form a.nest) (toks_at a.kinds.now a.code.now a.at)) (c.expected-2.ensures a.kinds.now) c.in_ok-expected.was ∙ then-on (toks_at a.kinds.now a.code.now) (closing_by (deeper form a.nest) (toks_at a.kinds.now a.code.now a.at)) c.quoted.ensures c.in_ok-end.was ∙ then-on (toks_at a.kinds.now a.code.now) (text_by (deeper form a.nest) (toks_at a.kinds.now a.code.now a.at)) (c.expected.ensures a.kinds.now) c.in_ok-start.was ∙ string-is (deeper form a.nest) (toks_at a.kinds.now a.code.now a.at)

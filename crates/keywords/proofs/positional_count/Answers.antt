@@ -1,39 +1,21 @@
--- `keywords::positional_count` meets its contract: what is told and what the parts from here on have is all. Assumes nothing.
-use borrow.Author.Rules.{rules}
-use Prim.Native.Nat.{◌-◌, ◌≤◌, ◌<◌}
-use native.Mathlib.Omega.{arith}
-use mathlib.Core.Path.{ap, sym}
-use lib.ListN.{length, take, drop}
-use Rattle.keywords.proofs.Parameters.{positionals-none, positionals-all, positionals-done, positional-once, positional-count-on}
+use Rattle.std.proofs.Common.{length, arith, rules, tests, ap, ◌<◌, ◌^◌, ◌∙◌}
+use mathlib.Core.Logic.{inl}
+use lib.Dec.{ltb}
+use Rattle.std.proofs.lemmas.Iterator.Consumers.{count_from_yields_List, YieldsList-from_filter, YieldsList-at}
+use Rattle.parts.specs.Parts.{parts_left}
+use Rattle.parts.proofs.Divided.{few_parts}
+use Rattle.parts.proofs.Chains.{yields_parts, count-listed}
+use Rattle.keywords.specs.Keywords.{positional_in}
+use Rattle.keywords.proofs.Parameters.{positionals_told}
 use Rattle.keywords.proofs.positional_count.Goals as goal
 
-pub returns-then-operand-eq0 : goal.returns-then-operand-eq0
-returns-then-operand-eq0 c =
-    sym (ap length (positionals-none c.args.operand.now c.if-operand-eq0.true))
-
-pub loop-at-init : goal.loop-at-init
-loop-at-init c =
-    let e = ap length (positionals-all c.args.operand.now c.if-operand-eq0.false) in
-    (omega arith, omega arith, omega (arith, e))
-
-pub overflow_add-told : goal.overflow_add-told
-overflow_add-told c =
-    let s = c.args.operand.now in
-    let le : c.loop-at.at ≤ length s = search rules in
-    omega (arith, c.loop-at.invariant.0, le, c.positional_in-told.ensures, positional-once (take (c.bare_at-end.result - c.loop-at.at) (drop c.loop-at.at s)))
-
-pub loop-at-preserved : goal.loop-at-preserved
-loop-at-preserved c =
-    let s = c.args.operand.now in
-    let le : c.loop-at.at ≤ length s = search rules in
-    let e = c.bare_at-end.ensures in
-    let one = positional-once (take (c.bare_at-end.result - c.loop-at.at) (drop c.loop-at.at s)) in
-    let n = positional-count-on s c.loop-at.at _ le e.value in
-    (omega (arith, c.loop-at.invariant.0, e.lower_bound.0, c.positional_in-told.ensures, one), omega (arith, e.lower_bound.1, le), omega (arith, c.loop-at.invariant.2, n, c.positional_in-told.ensures))
+pub count-requires-clause-fits : goal.count-requires-clause-fits
+count-requires-clause-fits c =
+    let bound : length c.args.operand.now < 2 ^ 63 = search rules in
+    inl (omega (arith, bound, few_parts c.args.operand.now, ap length c.of.ensures, ap (λ it. length (parts_left it)) c.filter.ensures.source))
 
 pub returns : goal.returns
 returns c =
-    let s = c.args.operand.now in
-    let past : length s < c.loop-at.at = search rules in
-    let n = ap length (positionals-done s c.loop-at.at past) in
-    omega (arith, c.loop-at.invariant.2, n)
+    count_from_yields_List _ _ c.count.ensures.ran
+    (YieldsList-from_filter _ (λ p. ltb 0 (length (positional_in p))) (YieldsList-at c.filter.ensures.source (yields_parts _ c.of.ensures)) c.filter.ensures.closure (λ x b q k. search (rules, tests)))
+    ∙ (count-listed (λ p. ltb 0 (length (positional_in p))) _ ∙ positionals_told c.args.operand.now)

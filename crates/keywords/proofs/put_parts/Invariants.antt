@@ -1,18 +1,16 @@
-use Prim.Native.Nat.{◌+◌, ◌-◌, ◌≤◌}
-use mathlib.Core.Path.{◌≡◌}
-use lib.ListN.{length}
+use Rattle.std.proofs.Common.{◌≡◌, true, map, ◌+◌, length}
+use Rattle.rules.specs.Lexemes.{lexed}
+use Rattle.rules.specs.Library.{keyword_names}
 use Rattle.lent.specs.Splice.{splice}
+use Rattle.parts.specs.Parts.{parts_left}
 use Rattle.keywords.specs.Keywords.{keywords_in, keywords_code}
-use Rattle.keywords.proofs.Parameters.{keywords_from}
+use Rattle.keywords.proofs.Parameters.{Short}
 use Rattle.keywords.proofs.put_parts.Given as goal
 
-abbrev pub invariant-loop-i : goal.invariant-loop-i
-invariant-loop-i l =
-    (l.i ≤ length l.operand + 1)
-    × (length l.out ≡ length l.initial.out)
-    × (l.to + length (keywords_code (keywords_from l.operand l.i)) ≡ l.at + length (keywords_code (keywords_in l.operand)))
-    × (splice l.out l.to (keywords_code (keywords_from l.operand l.i)) ≡ splice l.initial.out l.at (keywords_code (keywords_in l.operand)))
-
-abbrev pub decreases-loop-i : goal.decreases-loop-i
-decreases-loop-i l =
-    length l.operand + 1 - l.i
+abbrev pub invariant-loop-part : goal.invariant-loop-part
+invariant-loop-part l =
+    let left = keywords_code (keyword_names (map (lexed true) (parts_left l.part-iterator))) in
+    (length l.out ≡ length l.initial.out)
+    × Short (length l.operand) (parts_left l.part-iterator)
+    × (l.to + length left ≡ l.at + length (keywords_code (keywords_in l.operand)))
+    × (splice l.out l.to left ≡ splice l.initial.out l.at (keywords_code (keywords_in l.operand)))

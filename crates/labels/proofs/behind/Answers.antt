@@ -1,49 +1,56 @@
--- `labels::behind` meets its contract: searching on from here ends where it was to end. Assumes nothing.
-use mathlib.Core.Path.{refl, ap, sym, ◌∙◌}
-use Prim.Native.Nat.{◌≤◌, ◌<◌}
-use lib.ListN.{length}
-use native.Mathlib.Omega.{arith}
+use Rattle.std.proofs.Common.{◌≡◌, length, sym, ap, refl, ◌∙◌, arith, false}
+use Rattle.line_reader.specs.Reading.{has_line}
 use Rattle.labels.specs.Searches.{is_operation, behind}
-use Rattle.labels.proofs.Turns.{operation-is, none-behind, past-within, behind-found, behind-next}
-use borrow.Author.Rules.{rules}
+use Rattle.labels.proofs.Turns.{reader-source, reader-within, reader-found, reader-next, reader-stays, reader-none}
 use Rattle.labels.proofs.behind.Goals as goal
 
-pub loop-next-init : goal.loop-next-init
-loop-next-init c = (omega arith, omega arith, refl)
+pub loop-line-init : goal.loop-line-init
+loop-line-init c = record { source = refl; within = (omega arith, omega arith); same = refl }
 
-pub returns-then-equal : goal.returns-then-equal
-returns-then-equal c =
-    let a = c.args in
-    let file = a.file.now in
-    let lt : c.loop-next.next < length file = search rules in
-    let test = operation-is a.word.now _ _ c.operation_of-operation.ensures (sym c.equal.ensures ∙ c.if-equal.true) in
-    let past = past-within file c.loop-next.next _ lt c.line_end-end.ensures.value in
-    let is = c.past_newline-next.ensures in
-    record { value = is ∙ sym (c.loop-next.invariant.2 ∙ behind-found file c.loop-next.next _ lt c.line_end-end.ensures.value (is_operation a.word.now) test); lower_bound = (omega (arith, past.0, is, c.loop-next.invariant.0), omega (arith, past.1, is, c.loop-next.invariant.0)) }
+pub loop-line-smaller : goal.loop-line-smaller
+loop-line-smaller c =
+    let w = reader-within c.args.word.now _ _ _ _ c.in-Some.ensures.line c.next_line.ensures.reader c.operation_of.ensures in
+    let n = ap length c.loop-line.invariant.source in
+    omega (arith, w.0, w.1, n)
 
-pub loop-next-smaller : goal.loop-next-smaller
-loop-next-smaller c =
-    let a = c.args in
-    let file = a.file.now in
-    let lt : c.loop-next.next < length file = search rules in
-    let test = operation-is a.word.now _ _ c.operation_of-operation.ensures (sym c.equal.ensures ∙ c.if-equal.false) in
-    let past = past-within file c.loop-next.next _ lt c.line_end-end.ensures.value in
-    let is = c.past_newline-next.ensures in
-    omega (arith, past.0, past.1, is)
+pub loop-line-preserved : goal.loop-line-preserved
+loop-line-preserved c =
+    let word = c.args.word.now in
+    let i = c.loop-line.invariant in
+    let h = c.in-Some.ensures.line in
+    let w = reader-within word _ _ _ _ h c.next_line.ensures.reader c.operation_of.ensures in
+    let n = ap length i.source in
+    let next = reader-next word _ _ _ _ h c.next_line.ensures.reader c.operation_of.ensures (sym c.equal.ensures ∙ c.if-equal.false) in
+    record {
+      source = reader-source word _ _ _ _ h c.next_line.ensures.reader c.operation_of.ensures ∙ i.source;
+      within = (omega (arith, w.0, i.within.0), omega (arith, w.1, n, i.within.0));
+      same = i.same ∙ (λ j. behind (is_operation word) (sym i.source j) c.loop-line.reader.at) ∙ (next ∙ (λ j. behind (is_operation word) (i.source j) c.next_line.new.self.at));
+    }
 
-pub loop-next-preserved : goal.loop-next-preserved
-loop-next-preserved c =
-    let a = c.args in
-    let file = a.file.now in
-    let lt : c.loop-next.next < length file = search rules in
-    let test = operation-is a.word.now _ _ c.operation_of-operation.ensures (sym c.equal.ensures ∙ c.if-equal.false) in
-    let past = past-within file c.loop-next.next _ lt c.line_end-end.ensures.value in
-    let is = c.past_newline-next.ensures in
-    (omega (arith, past.0, is, c.loop-next.invariant.0), omega (arith, past.1, is, c.loop-next.invariant.0), c.loop-next.invariant.2 ∙ (behind-next file c.loop-next.next _ lt c.line_end-end.ensures.value (is_operation a.word.now) test ∙ ap (behind (is_operation a.word.now) file) (sym is)))
+pub returns-then-equal-clause-value : goal.returns-then-equal-clause-value
+returns-then-equal-clause-value c =
+    let word = c.args.word.now in
+    let i = c.loop-line.invariant in
+    let found = reader-found word _ _ _ _ c.in-Some.ensures.line c.next_line.ensures.reader c.operation_of.ensures (sym c.equal.ensures ∙ c.if-equal.true) in
+    found ∙ ((λ j. behind (is_operation word) (i.source j) c.loop-line.reader.at) ∙ sym i.same)
 
-pub returns : goal.returns
-returns c =
-    let a = c.args in
-    let file = a.file.now in
-    let end : length file ≤ c.loop-next.next = search rules in
-    record { value = sym (c.loop-next.invariant.2 ∙ none-behind file c.loop-next.next end (is_operation a.word.now)); lower_bound = search rules }
+pub returns-then-equal-clause-lower_bound : goal.returns-then-equal-clause-lower_bound
+returns-then-equal-clause-lower_bound c =
+    let w = reader-within c.args.word.now _ _ _ _ c.in-Some.ensures.line c.next_line.ensures.reader c.operation_of.ensures in
+    let i = c.loop-line.invariant in
+    let n = ap length i.source in
+    (omega (arith, w.0, i.within.0), omega (arith, w.1, n, i.within.0))
+
+pub returns-in_default-clause-value : goal.returns-in_default-clause-value
+returns-in_default-clause-value c =
+    let none : has_line c.loop-line.reader ≡ false = c.in_default.ensures.line in
+    let word = c.args.word.now in
+    let i = c.loop-line.invariant in
+    reader-none _ _ none c.next_line.ensures.reader (is_operation word) ∙ ((λ j. behind (is_operation word) (i.source j) c.loop-line.reader.at) ∙ sym i.same)
+
+pub returns-in_default-clause-lower_bound : goal.returns-in_default-clause-lower_bound
+returns-in_default-clause-lower_bound c =
+    let none : has_line c.loop-line.reader ≡ false = c.in_default.ensures.line in
+    let e = reader-stays _ _ none c.next_line.ensures.reader in
+    let w = c.loop-line.invariant.within in
+    (omega (arith, e, w.0), omega (arith, e, w.1))

@@ -1,6 +1,6 @@
 -- `next_at` meets its contract: what the two calls say, put together. Assumes nothing.
 use mathlib.Core.Path.{ap, ◌∙◌}
-use Rattle.labels.specs.Searches.{past_newline}
+use Rattle.lines.specs.Ends.{past_newline}
 use Rattle.line_reader.specs.Reading.{next_at}
 use Rattle.line_reader.proofs.next_at.Goals as goal
 

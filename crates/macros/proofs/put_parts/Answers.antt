@@ -8,15 +8,15 @@ pub put_header-head-requires : goal.put_header-head-requires
 put_header-head-requires c =
     let h = c.requires in
     let a = c.args in
-    let n = parts-length a.prototype.now h.locals a.own.now a.global.now a.shared.now a.body.now in
+    let n = parts-length a.prototype.now h.locals a.names.own.now a.names.global.now a.names.shared.now a.body.now in
     (h.short, (h.no-remark, omega (arith, h.room, n)))
 
 pub put_kinds-end-requires : goal.put_kinds-end-requires
 put_kinds-end-requires c =
     let h = c.requires in
     let a = c.args in
-    let n = parts-length a.prototype.now h.locals a.own.now a.global.now a.shared.now a.body.now in
-    let k = kinds-length a.prototype.now h.locals a.own.now a.global.now a.shared.now a.body.now a.kinds.now h.locals_are in
+    let n = parts-length a.prototype.now h.locals a.names.own.now a.names.global.now a.names.shared.now a.body.now in
+    let k = kinds-length a.prototype.now h.locals a.names.own.now a.names.global.now a.names.shared.now a.body.now a.kinds.now h.locals_are in
     let e = c.put_header-head.ensures in
     let l = kept-length a.out.now _ a.at _ e.out_after in
     (omega (arith, h.room, n, k, e.value, l), omega (arith, h.few))
@@ -25,7 +25,7 @@ pub put_body-requires : goal.put_body-requires
 put_body-requires c =
     let h = c.requires in
     let a = c.args in
-    let n = parts-length a.prototype.now h.locals a.own.now a.global.now a.shared.now a.body.now in
+    let n = parts-length a.prototype.now h.locals a.names.own.now a.names.global.now a.names.shared.now a.body.now in
     let e = c.put_header-head.ensures in
     let l = kept-length a.out.now _ a.at _ e.out_after in
     let f = c.put_kinds-end.ensures h.locals h.locals_are in
@@ -39,4 +39,4 @@ returns c =
     let g = c.put_body.ensures in
     λ ks is.
     let f = c.put_kinds-end.ensures ks is in
-    parts-done a.prototype.now ks a.own.now a.global.now a.shared.now a.body.now a.out.now _ _ _ a.at _ _ _ e.value f.0 g.value e.out_after f.1 g.out_after
+    parts-done a.prototype.now ks a.names.own.now a.names.global.now a.names.shared.now a.body.now a.out.now _ _ _ a.at _ _ _ e.value f.0 g.value e.out_after f.1 g.out_after

@@ -1,16 +1,10 @@
-use Prim.Native.Nat.{◌+◌, ◌-◌, ◌≤◌}
-use mathlib.Core.Path.{◌≡◌}
-use mathlib.Core.Bool.{true, false}
-use lib.ListN.{length}
+use Rattle.std.proofs.Common.{◌≡◌, true, false, map}
 use Rattle.rules.specs.Lexemes.{lexed}
 use Rattle.rules.specs.Calls.{divided}
 use Rattle.rules.specs.Faults.{are_good_parts}
-use Rattle.operands.proofs.Rest.{rest_from}
+use Rattle.parts.specs.Parts.{parts_left}
 use Rattle.operands.proofs.are_good_parts.Given as goal
 
-abbrev pub invariant-loop-at : goal.invariant-loop-at
-invariant-loop-at l =
-    (l.at ≤ length l.operand + 1) × (are_good_parts false (divided (lexed true l.operand)) ≡ are_good_parts l.keywords (rest_from l.operand l.at))
-
-abbrev pub decreases-loop-at : goal.decreases-loop-at
-decreases-loop-at l = length l.operand + 1 - l.at
+abbrev pub invariant-loop-part : goal.invariant-loop-part
+invariant-loop-part l =
+    are_good_parts false (divided (lexed true l.operand)) ≡ are_good_parts l.keywords (map (lexed true) (parts_left l.part-iterator))

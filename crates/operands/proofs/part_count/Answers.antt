@@ -1,32 +1,15 @@
--- `operands::part_count` meets its contract: the parts told and those from here on are all. Assumes nothing.
-use borrow.Author.Rules.{rules}
-use Prim.Native.Nat.{◌≤◌, ◌<◌}
-use native.Mathlib.Omega.{arith}
-use mathlib.Core.Path.{ap, sym}
-use lib.ListN.{length}
-use Rattle.operands.proofs.Rest.{all_none, all_rest, rest-done, count-on}
+use Rattle.std.proofs.Common.{length, arith, rules, ap, ◌∙◌, ◌<◌, ◌^◌}
+use mathlib.Core.Logic.{inl}
+use Rattle.std.proofs.lemmas.Iterator.Consumers.{count_from_yields_List}
+use Rattle.parts.proofs.Divided.{few_parts}
+use Rattle.parts.proofs.Chains.{yields_parts, part_count}
 use Rattle.operands.proofs.part_count.Goals as goal
 
-pub returns-then-operand-eq0 : goal.returns-then-operand-eq0
-returns-then-operand-eq0 c =
-    sym (ap length (all_none c.args.operand.now c.if-operand-eq0.true))
-
-pub loop-at-init : goal.loop-at-init
-loop-at-init c =
-    let e = ap length (all_rest c.args.operand.now c.if-operand-eq0.false) in
-    (omega arith, omega arith, omega (arith, e))
-
-pub loop-at-preserved : goal.loop-at-preserved
-loop-at-preserved c =
-    let s = c.args.operand.now in
-    let le : c.loop-at.at ≤ length s = search rules in
-    let e = c.bare_at-at.ensures in
-    let n = count-on s c.loop-at.at _ le e.value in
-    (omega (arith, c.loop-at.invariant.0, e.lower_bound.0), omega (arith, e.lower_bound.1, le), omega (arith, c.loop-at.invariant.2, n))
+pub count-requires-clause-fits : goal.count-requires-clause-fits
+count-requires-clause-fits c =
+    let bound : length c.args.operand.now < 2 ^ 63 = search rules in
+    inl (omega (arith, bound, few_parts c.args.operand.now, ap length c.of.ensures))
 
 pub returns : goal.returns
 returns c =
-    let s = c.args.operand.now in
-    let past : length s < c.loop-at.at = search rules in
-    let n = ap length (rest-done s c.loop-at.at past) in
-    omega (arith, c.loop-at.invariant.2, n)
+    count_from_yields_List _ _ c.count.ensures.ran (yields_parts _ c.of.ensures) ∙ part_count c.args.operand.now

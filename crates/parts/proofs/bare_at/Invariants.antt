@@ -7,7 +7,4 @@ use Rattle.parts.proofs.bare_at.Given as goal
 
 abbrev pub invariant-loop-i : goal.invariant-loop-i
 invariant-loop-i l =
-    (l.at ≤ l.i) × (l.i ≤ l.at + (length l.s - l.at)) × (l.seen.depth ≤ l.i) × (l.at + bare_at l.c (drop l.at l.s) ≡ stops_from l.c l.s l.i l.seen)
-
-abbrev pub decreases-loop-i : goal.decreases-loop-i
-decreases-loop-i l = length l.s - l.i
+    (l.seen.depth ≤ l.i) × (l.i ≤ l.at + (length l.s - l.at)) × (l.at + bare_at l.c (drop l.at l.s) ≡ stops_from l.c l.s l.i l.seen)

@@ -1,21 +1,17 @@
 -- `prototypes::declares_wrongly` meets its contract: the operand declares wrongly with no name taken, and the name field adds its symbol in front. Assumes nothing.
-use native.Mathlib.Omega.{arith}
-use Rattle.declared.proofs.Starts.{start-inside}
+use mathlib.Core.Path.{ap, sym, ◌∙◌}
+use mathlib.Core.Bool.{false}
+use Rattle.text.specs.Bytes.{same}
+use Rattle.rules.specs.Choice.{any}
+use Rattle.declared.specs.Declared.{found}
 use Rattle.prototypes.proofs.Parameters.{wrongly-none, wrongly-one}
 use Rattle.prototypes.proofs.declares_wrongly.Goals as goal
 
-pub returns-then-size-eq0 : goal.returns-then-size-eq0
-returns-then-size-eq0 c =
-    wrongly-none c.args.name.now c.args.operand.now c.declares_wrongly-rest.ensures _ c.start_length-size.ensures c.if-size-eq0.true
+pub returns-in-Some : goal.returns-in-Some
+returns-in-Some c =
+    wrongly-one c.args.name.now c.args.operand.now c.declares_wrongly-rest.ensures _ (sym (ap found c.in-Some.is) ∙ c.start_symbol.ensures false) c.begins_sys-system.ensures
+    (c.symbol_among-again.ensures ∙ ap (any (same c.in-Some.symbol.now)) c.of.ensures)
 
-pub overflow_add-symbol : goal.overflow_add-symbol
-overflow_add-symbol c =
-    omega (arith, c.start_length-size.ensures, start-inside c.args.name.now)
-
-pub slice_bounds-symbol-end : goal.slice_bounds-symbol-end
-slice_bounds-symbol-end c =
-    omega (arith, c.start_length-size.ensures, start-inside c.args.name.now, c.if-size-eq0.false)
-
-pub returns : goal.returns
-returns c =
-    wrongly-one c.args.name.now c.args.operand.now c.declares_wrongly-rest.ensures _ c.start_length-size.ensures c.if-size-eq0.false c.begins_sys-system.ensures c.symbol_among-again.ensures
+pub returns-in-None : goal.returns-in-None
+returns-in-None c =
+    wrongly-none c.args.name.now c.args.operand.now c.declares_wrongly-rest.ensures (sym (ap found c.in-None.is) ∙ c.start_symbol.ensures false)

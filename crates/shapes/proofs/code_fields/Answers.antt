@@ -11,7 +11,7 @@ pub put_field-second-requires : goal.put_field-second-requires
 put_field-second-requires c =
     let a = c.args in
     let e = c.put_field-first.ensures in
-    omega (arith, e.value, code-short false a.own.now a.global.now a.shared.now a.name.now, ap length e.out_after ∙ splice-length _ _ _)
+    omega (arith, e.value, code-short false a.names.own.now a.names.global.now a.names.shared.now a.name.now, ap length e.out_after ∙ splice-length _ _ _)
 
 pub put_field-third-requires : goal.put_field-third-requires
 put_field-third-requires c =
@@ -22,8 +22,8 @@ put_field-third-requires c =
       arith,
       e.value,
       f.value,
-      code-short false a.own.now a.global.now a.shared.now a.name.now,
-      code-short false a.own.now a.global.now a.shared.now a.operation.now,
+      code-short false a.names.own.now a.names.global.now a.names.shared.now a.name.now,
+      code-short false a.names.own.now a.names.global.now a.names.shared.now a.operation.now,
       ap length f.out_after ∙ (splice-length _ _ _ ∙ (ap length e.out_after ∙ splice-length _ _ _)),
     )
 

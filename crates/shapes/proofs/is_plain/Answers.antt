@@ -1,14 +1,9 @@
--- `shapes::is_plain` meets its contract: the codes so far are plain, and the rest decides. Assumes nothing.
-use borrow.Author.Rules.{rules}
-use mathlib.Core.Path.{sym, ◌∙◌}
-use Rattle.shapes.proofs.Plain.{plain-on, plain-not, plain_end}
+-- `shapes::is_plain` meets its contract. Assumes nothing.
+use Rattle.std.proofs.Common.{rules, tests, ◌∙◌, nat_lt}
+use Rattle.std.proofs.lemmas.Iterator.{YieldsList-from_slice}
+use Rattle.std.proofs.lemmas.Iterator.Search.{all_from_yields_List}
+use Rattle.shapes.proofs.Plain.{all-plain}
 use Rattle.shapes.proofs.is_plain.Goals as goal
 
-pub returns-then-code-i-gt127 : goal.returns-then-code-i-gt127
-returns-then-code-i-gt127 c = sym (c.loop-i.invariant.1 ∙ plain-not c.args.code.now c.loop-i.i (search rules) c.if-code-i-gt127.true)
-
-pub loop-i-preserved : goal.loop-i-preserved
-loop-i-preserved c = (search rules, c.loop-i.invariant.1 ∙ plain-on c.args.code.now c.loop-i.i (search rules) c.if-code-i-gt127.false)
-
 pub returns : goal.returns
-returns c = sym (c.loop-i.invariant.1 ∙ plain_end c.args.code.now c.loop-i.i (search rules))
+returns c = all_from_yields_List (λ b. nat_lt b 128) _ _ _ c.all.ensures.ran (YieldsList-from_slice c.args.code.now c.iter.ensures.rest) (λ x b q k. search (rules, tests)) ∙ all-plain c.args.code.now

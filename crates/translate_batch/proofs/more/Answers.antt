@@ -7,13 +7,13 @@ use Rattle.translate_batch.specs.Answering.{message}
 use Rattle.translate_batch.proofs.Windows.{stands-on, shrinks, stuck}
 use Rattle.translate_batch.proofs.more.Goals as goal
 
-pub returns-then-used-at : goal.returns-then-used-at
-returns-then-used-at g c = λ whole place stands.
+pub returns-then-place-now : goal.returns-then-place-now
+returns-then-place-now g c = λ whole place stands.
     let now = c.refill.new.window in
     let n = c.in_ok-now.now in
     let e = c.in_ok-now.ensures in (
-      stands-on whole place c.args.window.now now c.args.at c.args.used n _ _ stands e.bounds.1 e.left,
-      shrinks whole place c.args.window.now now c.args.at c.args.used n _ _ stands e.bounds.1 e.left (omega arith),
+      stands-on whole place c.args.window.now now c.args.place.at c.args.place.used n _ _ stands e.bounds.1 e.left,
+      shrinks whole place c.args.window.now now c.args.place.at c.args.place.used n _ _ stands e.bounds.1 e.left (omega arith),
       Keeps-refl (g.E.Write.contents c.args.errors.now),
     )
 
@@ -21,13 +21,13 @@ pub returns-in_ok-write_all : goal.returns-in_ok-write_all
 unfolding message
 returns-in_ok-write_all g c = λ whole place stands.
     let e = c.in_ok-now.ensures in (
-      stuck whole place c.args.window.now c.refill.new.window c.args.at c.args.used c.in_ok-now.now _ _ stands e.bounds.1 e.left e.bounds.0 (omega arith) e.front e.end,
+      stuck whole place c.args.window.now c.refill.new.window c.args.place.at c.args.place.used c.in_ok-now.now _ _ stands e.bounds.1 e.left e.bounds.0 (omega arith) e.front e.end,
       subst (Appends (g.E.Write.contents c.args.errors.now) (g.E.Write.contents c.write_all.new.self)) (sym (passed_over [] message c.if-not-ended.true)) c.in_ok-write_all.ensures.bytes,
     )
 
 pub returns-else-not-ended : goal.returns-else-not-ended
 returns-else-not-ended g c = λ whole place stands.
     let e = c.in_ok-now.ensures in (
-      stuck whole place c.args.window.now c.refill.new.window c.args.at c.args.used c.in_ok-now.now _ _ stands e.bounds.1 e.left e.bounds.0 (omega arith) e.front e.end,
+      stuck whole place c.args.window.now c.refill.new.window c.args.place.at c.args.place.used c.in_ok-now.now _ _ stands e.bounds.1 e.left e.bounds.0 (omega arith) e.front e.end,
       subst (Appends (g.E.Write.contents c.args.errors.now) (g.E.Write.contents c.args.errors.now)) (sym (chosen [] message c.if-not-ended.false)) (Appends-nil (g.E.Write.contents c.args.errors.now)),
     )

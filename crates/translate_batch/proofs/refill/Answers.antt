@@ -6,18 +6,18 @@ use Rattle.translate_batch.proofs.refill.Goals as goal
 
 pub returns-clause-front : goal.returns-clause-front
 returns-clause-front g c =
-    let n = c.args.used - c.args.at in
+    let n = c.args.place.used - c.args.place.at in
     let now = c.keep.new.buffer in
     take-put_mid_below n (length now - n) now c.read_full.new.buffer n (omega arith) (omega arith)
-    ∙ kept c.args.window.now c.args.at c.args.used (omega arith) (omega arith) c.keep.ensures
+    ∙ kept c.args.window.now c.args.place.at c.args.place.used (omega arith) (omega arith) c.keep.ensures
 
 pub returns-clause-left : goal.returns-clause-left
 returns-clause-left g c =
-    let n = c.args.used - c.args.at in
+    let n = c.args.place.used - c.args.place.at in
     let now = c.keep.new.buffer in
     let got = c.read_full.new.buffer in
     let fits : c.in_ok-count.count ≤ length got = c.in_ok-count.ensures.bound in
-    left-kept _ _ (drop c.args.at (take c.args.used c.args.window.now)) (take c.in_ok-count.count got) _
+    left-kept _ _ (drop c.args.place.at (take c.args.place.used c.args.window.now)) (take c.in_ok-count.count got) _
     (grown n c.in_ok-count.count (length now - n) now got (omega arith) fits
-    ∙ ap (λ (l : List ℕ). l ++ take c.in_ok-count.count got) (kept c.args.window.now c.args.at c.args.used (omega arith) (omega arith) c.keep.ensures))
+    ∙ ap (λ (l : List ℕ). l ++ take c.in_ok-count.count got) (kept c.args.window.now c.args.place.at c.args.place.used (omega arith) (omega arith) c.keep.ensures))
     c.in_ok-count.ensures.bytes

@@ -10,15 +10,15 @@ pub loop-preserved : goal.loop-preserved
 loop-preserved g c = λ whole p.
     let r = c.loop.invariant whole p in
     let deck : length c.loop.deck ≡ length c.args.deck.now = omega arith in
-    turn whole (length c.args.deck.now) _ _ c.loop.counter _ _ _ _ _ _ _ _ _ _ r (length c.loop.deck) c.in_ok-next.field-0 c.in-Some.next c.in-Some.now deck c.in-Some.is (c.in_ok-next.ensures whole r.place r.stands)
+    turn whole (length c.args.deck.now) _ _ c.loop.counter _ _ _ _ _ _ _ _ _ _ r (length c.loop.deck) c.in_ok-next.field-0 c.in-Some.next deck c.in-Some.is (c.in_ok-next.ensures whole r.place r.stands)
 
-pub returns-in-Nothing : goal.returns-in-Nothing
-returns-in-Nothing g c =
+pub returns-in-None : goal.returns-in-None
+returns-in-None g c =
     if_some (g.R.Read.remaining c.args.input.now) _ λ whole p small.
     let r = c.loop.invariant whole p in
     let deck : length c.loop.deck ≡ length c.args.deck.now = omega arith in
     let window : length c.step.new.window ≡ length c.args.window.now = omega arith in
-    last whole (length c.args.deck.now) _ _ c.loop.counter _ _ _ _ _ _ _ _ _ _ r (length c.loop.deck) c.in_ok-next.field-0 (length c.args.window.now) deck c.in-Nothing.is window (c.in_ok-next.ensures whole r.place r.stands)
+    last whole (length c.args.deck.now) _ _ c.loop.counter _ _ _ _ _ _ _ _ _ _ r (length c.loop.deck) c.in_ok-next.field-0 (length c.args.window.now) deck c.in-None.is window (c.in_ok-next.ensures whole r.place r.stands)
 
 pub returns : goal.returns
 returns g c =

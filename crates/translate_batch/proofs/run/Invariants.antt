@@ -8,4 +8,4 @@ abbrev pub invariant-loop : goal.invariant-loop
 invariant-loop g l =
     (whole : Bytes) → g.R.Read.remaining l.initial.input ≡ Some whole
     → Runs whole l.counter (length l.initial.deck) (g.W.Write.contents l.initial.output) (g.W.Write.contents l.output) (g.E.Write.contents l.initial.errors) (g.E.Write.contents l.errors)
-    l.window l.at l.used (g.R.Read.remaining l.input)
+    l.window l.place.at l.place.used (g.R.Read.remaining l.input)

@@ -1,8 +1,8 @@
 -- Arithmetic and its references, which call each other. The measure is seven for each level of nesting that remains, with the rules of a level in the order of
 -- their calls: arithmetic, product, term, referred, reference, subscripts, inner. Assumes nothing.
 use Rattle.rules.specs.Evaluate.{Cell}
-use Rattle.work_frames.specs.Holding.{Holding}
-use Rattle.value_arithmetic.proofs.Chains.{Loop, left_in}
+use Rattle.value_arithmetic.specs.Evaluating.{Holds}
+use Rattle.value_arithmetic.proofs.Chains.{Loop, to_read}
 use Rattle.value_arithmetic.proofs.Rules.{products-of, sums-of}
 use Prim.Native.Nat.{ℕ, ◌+◌, ◌*◌}
 use Rattle.value_arithmetic.proofs.+arithmetic_inner_product_reference_referred_subscripts_term.Given as goal
@@ -28,14 +28,14 @@ decreases-subscripts l = 7 * l.nest + 1
 abbrev pub decreases-term : goal.decreases-term
 decreases-term l = 7 * l.nest + 4
 
-abbrev pub invariant-arithmetic-loop-f : goal.invariant-arithmetic-loop-f
-invariant-arithmetic-loop-f l = (held : ℕ → Cell) → Holding l.deck l.work l.f held → Loop (sums-of l.nest) held l.code l.at l.so_far
+abbrev pub invariant-arithmetic-loop-next : goal.invariant-arithmetic-loop-next
+invariant-arithmetic-loop-next l = (held : ℕ → Cell) → Holds l.scene held → Loop (sums-of l.nest) held l.code l.at l.left
 
-abbrev pub decreases-arithmetic-loop-f : goal.decreases-arithmetic-loop-f
-decreases-arithmetic-loop-f l = left_in l.code l.so_far
+abbrev pub decreases-arithmetic-loop-next : goal.decreases-arithmetic-loop-next
+decreases-arithmetic-loop-next l = to_read l.code l.left
 
-abbrev pub invariant-product-loop-f : goal.invariant-product-loop-f
-invariant-product-loop-f l = (held : ℕ → Cell) → Holding l.deck l.work l.f held → Loop (products-of l.nest) held l.code l.at l.so_far
+abbrev pub invariant-product-loop-next : goal.invariant-product-loop-next
+invariant-product-loop-next l = (held : ℕ → Cell) → Holds l.scene held → Loop (products-of l.nest) held l.code l.at l.left
 
-abbrev pub decreases-product-loop-f : goal.decreases-product-loop-f
-decreases-product-loop-f l = left_in l.code l.so_far
+abbrev pub decreases-product-loop-next : goal.decreases-product-loop-next
+decreases-product-loop-next l = to_read l.code l.left

@@ -1,15 +1,12 @@
--- `judged` meets its contract. Assumes nothing.
-use Rattle.value_arithmetic.proofs.Rules.{judged-bare, judged-one, judged-two, judged-off}
+use mathlib.Core.Path.{sym, ap, ◌∙◌}
+use Rattle.rules.proofs.Choices.{chosen, passed_over}
+use Rattle.kinds.specs.Kinds.{kind_of, table_of}
+use Rattle.kinds.proofs.Back.{kind-back}
+use Rattle.value_sums.proofs.Answers.{tells-broken}
 use Rattle.value_arithmetic.proofs.judged.Goals as goal
 
-pub returns-in-Bare : goal.returns-in-Bare
-returns-in-Bare c = λ cell from k m. judged-bare _ _ _ cell from _ _ _ m (c.settled.ensures from) c.in-Bare.is (c.takes.ensures _ k)
+pub returns-then-takes : goal.returns-then-takes
+returns-then-takes g c cell from k = c.placed.ensures from ∙ sym (chosen _ _ (sym (c.takes.ensures ∙ ap (λ k. table_of c.args.stand k c.is_bare-bare.result) (ap kind_of k ∙ kind-back cell.kind) ∙ ap (table_of c.args.stand cell.kind) c.is_bare-bare.ensures) ∙ c.if-takes.true))
 
-pub returns-in-One : goal.returns-in-One
-returns-in-One c = λ cell from k m. judged-one _ _ _ cell from _ _ _ m (c.settled-in-One.ensures from) c.in-One.is (c.takes-in-One.ensures _ k)
-
-pub returns-in-Two : goal.returns-in-Two
-returns-in-Two c = λ cell from k m. judged-two _ _ _ cell from _ _ _ m (c.settled-in-Two.ensures from) c.in-Two.is (c.takes-in-Two.ensures _ k)
-
-pub returns-in-Refused : goal.returns-in-Refused
-returns-in-Refused c = λ cell from k m. judged-off cell from _ c.in-Refused.is
+pub returns : goal.returns
+returns g c cell from k = tells-broken (λ v. v) from _ ∙ sym (passed_over _ _ (sym (c.takes.ensures ∙ ap (λ k. table_of c.args.stand k c.is_bare-bare.result) (ap kind_of k ∙ kind-back cell.kind) ∙ ap (table_of c.args.stand cell.kind) c.is_bare-bare.ensures) ∙ c.if-takes.false))

@@ -1,14 +1,20 @@
--- `cell_of` meets its contract. Assumes nothing.
+use Prim.Native.Nat.{◌+◌, ◌*◌, ◌-◌, ◌≤◌, ◌<◌}
+use mathlib.Core.Path.{◌≡◌, ap, ◌∙◌}
 use native.Mathlib.Omega.{arith}
-use Rattle.value_references.proofs.Standing.{shared-cell, own_first, own-cell}
-use borrow.Author.Rules.{rules}
+use Rattle.value_references.proofs.Standing.{shared-cell, own-cell}
 use Rattle.value_references.proofs.cell_of.Goals as goal
 
-pub returns-then-slot-ge192 : goal.returns-then-slot-ge192
-returns-then-slot-ge192 c = (shared-cell _ _ c.if-slot-ge192.true, omega arith)
-
-pub returns-then-own-first : goal.returns-then-own-first
-returns-then-own-first c = (own_first _ _ (search rules) c.if-own-first.true, omega arith)
+pub returns-then-place-ge192 : goal.returns-then-place-ge192
+returns-then-place-ge192 c = let e = c.from-place.ensures in let far = c.if-place-ge192.true in let low : 192 ≤ c.args.slot = omega arith in (ap (λ p. p - 192) e ∙ shared-cell c.args.f _ low, omega arith)
 
 pub returns : goal.returns
-returns c = (own-cell _ _ (search rules), omega arith)
+returns c =
+    let place = c.from-place.ensures in
+    let depth = c.from.ensures in
+    let params = c.from-2.ensures in
+    let own = c.saturating_sub.ensures in
+    let near = c.if-place-ge192.false in
+    let below : c.args.slot < 192 = omega arith in
+    let same : 16 * c.from.result + c.saturating_sub.result ≡ 16 * c.args.f.depth + (c.args.slot - 128 - c.args.f.params) = omega arith in
+    let few = c.requires.0 in
+    (same ∙ own-cell c.args.f _ below, omega arith)

@@ -1,23 +1,35 @@
--- `count_of` meets its contract. Assumes nothing.
-use mathlib.Core.Path.{sym, ap, ◌∙◌}
-use Prim.Native.Nat.{◌≤◌, ◌<◌}
-use Rattle.value_references.proofs.Standing.{is-list, holds-list, runs-long}
-use Rattle.value_references.proofs.Parts.{count-placed, bare-same, entries-list, entries-text, both_true, not-both}
-use lib.IntN.{pos}
-use lib.ListN.{length}
+use mathlib.Core.Path.{◌≡◌, ap, sym, ◌∙◌}
 use mathlib.Core.Option.{some}
 use Prim.Native.Nat.{pred}
+use lib.IntN.{pos}
+use lib.ListN.{length}
+use mir.Syntax.{w32}
+use mir.Val.{SFits}
+use mir.Facts.{to_z-of_z}
 use Rattle.rules.specs.Values.{number_of_entries}
-use Rattle.value_references.specs.Referring.{basis_of}
 use Rattle.rules.specs.Evaluate.{and_then}
-use borrow.Author.Rules.{rules}
+use Rattle.kinds.specs.declared.Kind.TheVariants.{List as Listed}
+use Rattle.kinds.specs.Kinds.{kind_for}
+use Rattle.value_sums.proofs.Answers.{option-some}
+use Rattle.value_references.specs.declared.Subscripts.TheVariants.{Bare}
+use Rattle.value_references.proofs.Standing.{is-kind, holds-list, runs-long}
+use Rattle.value_references.proofs.Parts.{count-placed, entries-list, entries-text, bare-said, bare-empty}
+use Rattle.value_references.proofs.count_of.Goals.{in_default-via-in-List+in_default, in_default-via-in_default}
 use Rattle.value_references.proofs.count_of.Goals as goal
 
-pub returns-then-alone : goal.returns-then-alone
-returns-then-alone c = let low : 128 ≤ c.args.slot = search rules in let high : c.args.slot < 227 = search rules in λ held l h k s t. let a = both_true c.if-alone.true in c.positionals.ensures ∙ ap (λ n. some (pos (pred n))) (sym (ap length (holds-list _ _ _ held h _ low high (is-list k a.1)) ∙ runs-long _ _ _)) ∙ entries-list (held _) l (is-list k a.1) (sym (bare-same _ l s) ∙ sym c.is_bare.ensures ∙ a.0)
+pub returns-in-List-Bare : goal.returns-in-List-Bare
+returns-in-List-Bare c held h k t =
+    let list = is-kind k c.in-List-Bare.is-0 in
+    let fits : SFits w32 c.positionals.result = record { sfits = c.positionals.type_inv } in
+    rw (to_z-of_z fits) (option-some _ ∙ ap some (c.positionals.ensures ∙ ap (λ n. pos (pred n)) (sym (ap length (holds-list _ _ _ held h _ c.requires.0 c.requires.1 list) ∙ runs-long _ _ _))) ∙ entries-list (held _) _ list (bare-empty c.in-List-Bare.is-1))
 
 pub entries_in-requires : goal.entries_in-requires
-entries_in-requires c = c.basis-s.ensures.1
+entries_in-requires c = c.text_of.ensures.1
 
-pub returns : goal.returns
-returns c = λ held l h k s t. let p = count-placed _ _ t in c.entries_in.ensures ∙ ap (λ o. and_then o (λ t. some (pos (number_of_entries t)))) (c.part_of.ensures (held _) l k p (c.basis-s.ensures.0 held h k p ∙ ap (basis_of (held _)) c.first_of.ensures) s) ∙ entries-text (held _) l (λ z y. not-both c.if-alone.false (c.is_bare.ensures ∙ bare-same _ l s ∙ y) (k ∙ z))
+pub returns-in_default : goal.returns-in_default
+returns-in_default c held h k t =
+    let other : c.args.kind ≡ Listed → c.args.subscripts ≡ Bare → ⊥ = λ z y. elim c.in_default.branch [
+      | in_default-via-in-List+in_default w ↦ w.in_default.not-Bare-1 y
+      | in_default-via-in_default w ↦ w.in_default.not-List-0 z
+    ] in
+    c.entries_in.ensures ∙ ap (λ o. and_then o (λ t. some (pos (number_of_entries t)))) (c.text_of.ensures.0 held h k (count-placed _ _ t)) ∙ entries-text (held _) _ (λ z y. other (k ∙ ap kind_for z) (bare-said _ y))

@@ -1,8 +1,7 @@
--- `first_of` meets its contract. Assumes nothing.
-use Rattle.value_references.proofs.Parts.{first-bare, first_one, first_two, first-refused}
 use mir.Syntax.{w32}
 use mir.Val.{SFits}
 use mir.Facts.{to_z-of_z}
+use Rattle.value_references.proofs.Parts.{first-bare, first_one, first_two}
 use borrow.Author.Rules.{rules}
 use Rattle.value_references.proofs.first_of.Goals as goal
 
@@ -14,6 +13,3 @@ returns-in-One c = let fits : SFits w32 c.in-One.a = record { sfits = search rul
 
 pub returns-in-Two : goal.returns-in-Two
 returns-in-Two c = let fits : SFits w32 c.in-Two.a = record { sfits = search rules } in first_two c.in-Two.is (rw (to_z-of_z fits) at c.place_of-in-Two.ensures)
-
-pub returns-in-Refused : goal.returns-in-Refused
-returns-in-Refused c = first-refused c.in-Refused.is

@@ -1,12 +1,11 @@
--- `number_in` meets its contract. Assumes nothing.
-use mathlib.Core.Path.{ap, ◌∙◌}
-use Rattle.value_references.proofs.Parts.{part-some, part_none}
-use Rattle.value_sums.proofs.Answers.{option-none}
+use mathlib.Core.Path.{◌∙◌}
 use Rattle.rules.specs.Values.{number_in}
+use Rattle.value_sums.proofs.Answers.{option-none}
+use Rattle.value_references.proofs.Parts.{found-then, none-then}
 use Rattle.value_references.proofs.number_in.Goals as goal
 
-pub returns-in-In : goal.returns-in-In
-returns-in-In c = c.digits_in.ensures ∙ ap number_in c.part.ensures ∙ part-some _ number_in c.in-In.is
+pub returns-in_err-text : goal.returns-in_err-text
+returns-in_err-text c = rw c.from_residual.ensures (option-none ∙ none-then number_in c.in_err-text.was)
 
-pub returns-in-Nothing : goal.returns-in-Nothing
-returns-in-Nothing c = option-none ∙ part_none _ number_in c.in-Nothing.is
+pub returns : goal.returns
+returns c = c.digits_in.ensures ∙ found-then number_in c.in_ok-text.was

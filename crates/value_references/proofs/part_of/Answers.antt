@@ -1,14 +1,16 @@
--- `part_of` meets its contract. Assumes nothing.
-use mathlib.Core.Path.{◌∙◌}
-use Rattle.value_references.proofs.Standing.{is-parameter, is-list}
-use Rattle.value_references.proofs.Parts.{text-parameter, list-basis, text-list, text-other}
+use mathlib.Core.Path.{ap, ◌∙◌}
+use native.Mathlib.Nat.{le_refl}
+use Rattle.kinds.specs.Kinds.{kind_for}
+use Rattle.value_references.specs.Referring.{listed}
+use Rattle.value_references.proofs.Standing.{is-kind, not-parameter, not-list}
+use Rattle.value_references.proofs.Parts.{found-some, text-parameter, list-basis, text-list, text-other}
 use Rattle.value_references.proofs.part_of.Goals as goal
 
-pub returns-then-kind-eq0 : goal.returns-then-kind-eq0
-returns-then-kind-eq0 c = λ cell l e p b h. c.of_parameter.ensures l h ∙ text-parameter cell l _ (is-parameter e c.if-kind-eq0.true) b
+pub returns-in-Parameter : goal.returns-in-Parameter
+returns-in-Parameter c = (λ cell e p b. c.of_parameter.ensures.0 ∙ text-parameter cell _ _ (is-kind e c.in-Parameter.is) b, c.of_parameter.ensures.1)
 
-pub returns-then-kind-eq5 : goal.returns-then-kind-eq5
-returns-then-kind-eq5 c = λ cell l e p b h. let k = is-list e c.if-kind-eq5.true in c.of_list.ensures _ l (list-basis cell l _ k b) h ∙ text-list cell l k
+pub returns-in-List : goal.returns-in-List
+returns-in-List c = (λ cell e p b. let k = is-kind e c.in-List.is in c.of_list.ensures.0 _ (list-basis cell (listed c.args.subscripts) _ k b) ∙ text-list cell (listed c.args.subscripts) k, c.of_list.ensures.1)
 
-pub returns : goal.returns
-returns c = λ cell l e p b h. text-other cell l _ p (λ z. c.if-kind-eq0.false (e ∙ z)) (λ z. c.if-kind-eq5.false (e ∙ z)) b
+pub returns-in-Symbol : goal.returns-in-Symbol
+returns-in-Symbol c = (λ cell e p b. found-some _ ∙ text-other cell _ _ p (λ z. not-parameter c.in-Symbol.is (e ∙ ap kind_for z)) (λ z. not-list c.in-Symbol.is (e ∙ ap kind_for z)) b, le_refl _)

@@ -1,4 +1,3 @@
--- `place_in` meets its contract. Assumes nothing.
 use Rattle.work_frames.specs.Frames.{place_in}
 use borrow.Author.Rules.{rules}
 use Rattle.value_references.proofs.place_in.Goals as goal

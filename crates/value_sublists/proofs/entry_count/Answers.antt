@@ -1,12 +1,14 @@
 -- `entry_count` meets its contract. Assumes nothing.
+use borrow.Author.Tests.{tests}
 use Rattle.value_sublists.proofs.Divided.{count-empty, count-entries, count-whole}
+use borrow.Author.Rules.{rules}
 use Rattle.value_sublists.proofs.entry_count.Goals as goal
 
-pub returns-then-s-eq0 : goal.returns-then-s-eq0
-returns-then-s-eq0 c = count-empty _ c.if-s-eq0.true
+pub returns-then-is_empty : goal.returns-then-is_empty
+returns-then-is_empty c = count-empty c.args.s.now (search (rules, tests))
 
-pub returns-in-Entries : goal.returns-in-Entries
-returns-in-Entries c = count-entries _ _ c.entries_of.ensures c.if-s-eq0.false c.in-Entries.is
+pub returns-in-Some : goal.returns-in-Some
+returns-in-Some c = count-entries c.args.s.now _ c.entries_of.ensures.0 (search (rules, tests)) c.in-Some.is
 
-pub returns-in-Whole : goal.returns-in-Whole
-returns-in-Whole c = count-whole _ _ c.entries_of.ensures c.if-s-eq0.false c.in-Whole.is
+pub returns-in-None : goal.returns-in-None
+returns-in-None c = count-whole c.args.s.now _ c.entries_of.ensures.0 (search (rules, tests)) c.in-None.is

@@ -1,42 +1,23 @@
--- `digits_in` meets its contract. Assumes nothing.
-use Prim.Native.Nat.{◌≤◌, ◌<◌, ◌+◌}
 use mathlib.Core.Path.{sym, ◌∙◌}
-use native.Mathlib.Omega.{arith}
-use lib.ListN.{length}
-use mir.Syntax.{w32}
-use mir.ValLaws.{to_z_pos}
-use Rattle.grammar.proofs.Numbers.{digit-bounds}
-use Rattle.value_sums.proofs.Answers.{option-some, option-none}
-use Rattle.value_sums.proofs.Numbers.{number-starts, number-empty, number-long, number_more, number-stops, number-ends, number-over}
+use borrow.Author.Tests.{tests}
+use Rattle.std.proofs.lemmas.Iterator.{YieldsList-from_slice}
+use Rattle.std.proofs.lemmas.Iterator.Search.{all_from_yields_List}
+use Rattle.text.specs.Characters.{digit}
+use Rattle.value_sums.proofs.Answers.{option-none}
+use Rattle.value_sums.proofs.Numbers.{every-all, number-empty, number-long, number-other, number-spelt}
 use borrow.Author.Rules.{rules}
+use Rattle.value_sums.proofs.digits_in.Goals.{then-is_empty-via-then-is_empty, then-is_empty-via-else-is_empty+then-s-gt10, then-is_empty-via-else-is_empty+else-s-gt10+then-not-all}
 use Rattle.value_sums.proofs.digits_in.Goals as goal
 
-pub returns-then-s-eq0 : goal.returns-then-s-eq0
-returns-then-s-eq0 c = option-none ∙ number-empty _ c.if-s-eq0.true
+pub returns-then-is_empty : goal.returns-then-is_empty
+returns-then-is_empty c = option-none ∙ elim c.then-is_empty.branch [
+  | then-is_empty-via-then-is_empty w ↦ number-empty _ (search (rules, tests))
+  | then-is_empty-via-else-is_empty+then-s-gt10 w ↦ number-long _ w.if-s-gt10.true
+  | then-is_empty-via-else-is_empty+else-s-gt10+then-not-all w ↦ number-other _ (sym (all_from_yields_List digit _ _ _ w.all.ensures.ran (YieldsList-from_slice c.args.s.now (search rules)) (λ x b q k. search (rules, tests)) ∙ every-all _) ∙ w.if-not-all.true)
+]
 
-pub returns-then-s-gt10 : goal.returns-then-s-gt10
-returns-then-s-gt10 c = option-none ∙ number-long _ c.if-s-gt10.true
-
-pub loop-i-init : goal.loop-i-init
-loop-i-init c = (omega arith, number-starts _ (search rules) (search rules))
-
-pub returns-then-not-digit : goal.returns-then-not-digit
-returns-then-not-digit c = let lt : c.loop-i.i < length c.args.s.now = search rules in option-none ∙ number-stops _ _ _ lt (sym c.digit.ensures ∙ c.if-not-digit.true) ∙ c.loop-i.invariant.1
-
-pub overflow_sub-n : goal.overflow_sub-n
-overflow_sub-n c = let low = (digit-bounds _ (sym c.digit.ensures ∙ c.if-not-digit.false)).0 in omega arith
-
-pub overflow_cast-n : goal.overflow_cast-n
-overflow_cast-n c = let high = (digit-bounds _ (sym c.digit.ensures ∙ c.if-not-digit.false)).1 in omega arith
-
-pub overflow_add-n : goal.overflow_add-n
-overflow_add-n c = let high = (digit-bounds _ (sym c.digit.ensures ∙ c.if-not-digit.false)).1 in let few = c.loop-i.invariant.0 in omega arith
-
-pub returns-then-n-gt2147483647 : goal.returns-then-n-gt2147483647
-returns-then-n-gt2147483647 c = let lt : c.loop-i.i < length c.args.s.now = search rules in option-none ∙ number-over c.args.s.now _ (c.loop-i.i + 1) c.if-n-gt2147483647.true ∙ sym (number_more _ _ _ lt (sym c.digit.ensures ∙ c.if-not-digit.false)) ∙ c.loop-i.invariant.1
-
-pub loop-i-preserved : goal.loop-i-preserved
-loop-i-preserved c = let lt : c.loop-i.i < length c.args.s.now = search rules in (c.if-n-gt2147483647.false, sym (number_more _ _ _ lt (sym c.digit.ensures ∙ c.if-not-digit.false)) ∙ c.loop-i.invariant.1)
+pub spelt-requires : goal.spelt-requires
+spelt-requires c = sym (all_from_yields_List digit _ _ _ c.all.ensures.ran (YieldsList-from_slice c.args.s.now (search rules)) (λ x b q k. search (rules, tests)) ∙ every-all _) ∙ c.if-not-all.false
 
 pub returns : goal.returns
-returns c = let few = c.loop-i.invariant.0 in let end : length c.args.s.now ≤ c.loop-i.i = search rules in rw (to_z_pos w32 c.loop-i.n (omega arith)) (option-some _ ∙ sym (number-ends _ _ _ end c.loop-i.invariant.0) ∙ c.loop-i.invariant.1)
+returns c = c.spelt.ensures ∙ number-spelt _ (sym (all_from_yields_List digit _ _ _ c.all.ensures.ran (YieldsList-from_slice c.args.s.now (search rules)) (λ x b q k. search (rules, tests)) ∙ every-all _) ∙ c.if-not-all.false) (search (rules, tests)) c.if-s-gt10.false

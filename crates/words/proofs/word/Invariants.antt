@@ -1,11 +1,7 @@
-use Prim.Native.Nat.{◌≤◌, ◌+◌, ◌-◌}
-use mathlib.Core.Path.{◌≡◌}
+use Rattle.std.proofs.Common.{◌≡◌, ◌+◌}
 use lib.ListN.{drop}
 use Rattle.text.specs.Words.{place_among, words}
 use Rattle.words.proofs.word.Given as goal
 
-abbrev pub invariant-loop-k : goal.invariant-loop-k
-invariant-loop-k l = (l.k ≤ 16) × (place_among words l.op ≡ l.k + place_among (drop l.k words) l.op)
-
-abbrev pub decreases-loop-k : goal.decreases-loop-k
-decreases-loop-k l = 16 - l.k
+abbrev pub invariant-loop-row : goal.invariant-loop-row
+invariant-loop-row l = place_among words l.op ≡ l.row-index + place_among (drop l.row-index words) l.op

@@ -11,9 +11,6 @@ use Rattle.work_cells.proofs.number_in.Goals as goal
 pub returns-then-byte-eq0 : goal.returns-then-byte-eq0
 returns-then-byte-eq0 c = to_z_pos w32 _ c.four_in-n.ensures.1 ∙ positive _ _ (sign-cut _ _ _ refl ∙ sym c.byte.ensures ∙ c.if-byte-eq0.true) c.four_in-n.ensures.0
 
-pub overflow_sub-result : goal.overflow_sub-result
-overflow_sub-result c = rw (to_z_pos w32 _ c.four_in-n.ensures.1, less_one _) (record { sfits = c.four_in-n.ensures.1 })
-
-pub returns : goal.returns
-returns c = let fits : SFits w32 (negsuc c.four_in-n.result) = record { sfits = c.four_in-n.ensures.1 } in
+pub returns-else-byte-eq0 : goal.returns-else-byte-eq0
+returns-else-byte-eq0 c = let fits : SFits w32 (negsuc c.four_in-n.result) = record { sfits = c.four_in-n.ensures.1 } in
     rw (to_z_pos w32 _ c.four_in-n.ensures.1, less_one _, to_z-of_z fits) (negative _ _ (λ e. c.if-byte-eq0.false (c.byte.ensures ∙ sym (sign-cut _ _ _ refl) ∙ e)) c.four_in-n.ensures.0)

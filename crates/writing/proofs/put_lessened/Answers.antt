@@ -8,14 +8,14 @@ use Rattle.writing.proofs.put_lessened.Goals as goal
 
 pub loop-i-init : goal.loop-i-init
 loop-i-init c =
-    (search rules, refl, rw add-zero)
+    (refl, rw add-zero)
 
 pub loop-i-preserved : goal.loop-i-preserved
 loop-i-preserved c =
     let a = c.args in
-    (search rules, simp length-set c.loop-i.invariant.1, lessened-on c.loop-i.out a.s.now a.at c.loop-i.i _ c.less.ensures (search rules) ∙ c.loop-i.invariant.2)
+    (simp length-set c.loop-i.invariant.0, lessened-on c.loop-i.out a.s.now a.at c.loop-i.i _ c.saturating_sub.ensures (search rules) ∙ c.loop-i.invariant.1)
 
 pub returns : goal.returns
 returns c =
     let a = c.args in
-    sym (lessened-end c.loop-i.out a.s.now a.at c.loop-i.i (search rules)) ∙ c.loop-i.invariant.2
+    sym (lessened-end c.loop-i.out a.s.now a.at c.loop-i.i (search rules)) ∙ c.loop-i.invariant.1

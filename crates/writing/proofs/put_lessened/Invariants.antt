@@ -1,4 +1,4 @@
-use Prim.Native.Nat.{◌≤◌, ◌+◌, ◌-◌}
+use Prim.Native.Nat.{◌+◌}
 use mathlib.Core.Path.{◌≡◌}
 use lib.ListN.{length, drop}
 use Rattle.lent.specs.Splice.{splice}
@@ -7,8 +7,4 @@ use Rattle.writing.proofs.put_lessened.Given as goal
 
 abbrev pub invariant-loop-i : goal.invariant-loop-i
 invariant-loop-i l =
-    (l.i ≤ length l.s) × (length l.out ≡ length l.initial.out) × (splice l.out (l.at + l.i) (lessened (drop l.i l.s)) ≡ splice l.initial.out l.at (lessened l.s))
-
-abbrev pub decreases-loop-i : goal.decreases-loop-i
-decreases-loop-i l =
-    length l.s - l.i
+    (length l.out ≡ length l.initial.out) × (splice l.out (l.at + l.i) (lessened (drop l.i l.s)) ≡ splice l.initial.out l.at (lessened l.s))

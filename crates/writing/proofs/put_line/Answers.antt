@@ -1,12 +1,15 @@
 -- `writing::put_line` meets its contract: the first byte, and then the others. Assumes nothing.
 use borrow.Author.Rules.{rules}
+use Prim.Native.Nat.{ℕ, ◌+◌}
 use native.Mathlib.Omega.{arith}
-use mathlib.Core.Path.{sym}
-use lib.ListN.{take, length-set}
+use mathlib.Core.Path.{ap, ◌∙◌, sym}
+use lib.ListN.{take, set, length-set}
 use lib.Seq.{length-take-le}
+use Rattle.lent.specs.Splice.{splice}
 use Rattle.shapes.specs.Shapes.{part}
+use Rattle.writing.specs.Bytes.{behind_first}
 use Rattle.writing.proofs.Writes.{set-kept}
-use Rattle.writing.proofs.Parts.{front-short, part-short, headed, headed-length, headed-end, headed-written}
+use Rattle.writing.proofs.Parts.{headed, front-short, part-short, headed-length, headed-end, headed-written}
 use Rattle.writing.proofs.put_line.Goals as goal
 
 pub slice_bounds-name-end : goal.slice_bounds-name-end
@@ -24,7 +27,8 @@ unfolding part
 put_behind-requires c =
     let a = c.args in
     let s = a.code.now in
-    let is = headed a.shape.does a.line.now a.target (take a.shape.name s) (part s a.shape.operation a.shape.gap) (part s a.shape.operand a.shape.rest) in record {
+    let is = headed a.shape.does a.line.now a.target (take a.shape.name s) (part s a.shape.operation a.shape.gap) (part s a.shape.operand a.shape.rest) in
+    record {
       line_len_bound = (
         search rules,
         (
@@ -35,13 +39,13 @@ put_behind-requires c =
           ),
         ),
       );
-      operand_in_bounds = omega (arith, c.requires.room, headed-length _ _ _ is, length-set a.out.now a.at a.shape.does);
+      operand_in_bounds = omega (arith, c.requires.room, headed-length _ _ _ is, length-set a.out.now a.at c.does_code.result);
     }
 
 pub shape_of-out : goal.shape_of-out
 shape_of-out c =
     let a = c.args in
-    set-kept a.out.now _ a.at a.shape.does _ _ c.put_behind.ensures.out_after
+    set-kept a.out.now _ a.at c.does_code.result _ _ c.put_behind.ensures.out_after
 
 pub returns : goal.returns
 unfolding part
@@ -50,4 +54,4 @@ returns c =
     let s = a.code.now in
     let is = headed a.shape.does a.line.now a.target (take a.shape.name s) (part s a.shape.operation a.shape.gap) (part s a.shape.operand a.shape.rest) in
     let e = c.put_behind.ensures in
-    record { value = headed-end _ _ _ is _ _ e.value; out_after = headed-written _ _ _ is _ _ _ e.out_after }
+    record { value = headed-end _ _ _ is _ _ e.value; out_after = headed-written _ _ _ is _ _ _ (e.out_after ∙ ap (λ (b : ℕ). splice (set a.out.now a.at b) (a.at + 1) (behind_first a.shape.does a.line.now a.target (take a.shape.name s) (part s a.shape.operation a.shape.gap) (part s a.shape.operand a.shape.rest))) c.does_code.ensures) }

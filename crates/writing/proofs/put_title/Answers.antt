@@ -5,7 +5,7 @@ use mathlib.Core.Path.{◌∙◌}
 use lib.ListN.{length-set}
 use Rattle.deck.specs.Coding.{two}
 use Rattle.writing.proofs.Writes.{counted-length, kept-length, set-kept}
-use Rattle.writing.proofs.Coded.{title-length, title-written}
+use Rattle.writing.proofs.Coded.{flag-byte, title-length, title-written}
 use Rattle.writing.proofs.put_title.Goals as goal
 
 pub bounds-out-end : goal.bounds-out-end
@@ -35,11 +35,11 @@ overflow_add-result c =
 pub shape_of-out : goal.shape_of-out
 shape_of-out c =
     let p = c.put_counted-end in
-    set-kept p.new.out _ p.result c.flag_byte.result _ _ c.put_two.ensures ∙ kept-length _ _ _ _ p.ensures.out_after
+    set-kept p.new.out _ p.result c.from.result _ _ c.put_two.ensures ∙ kept-length _ _ _ _ p.ensures.out_after
 
 pub returns : goal.returns
 unfolding two
 returns c =
     let a = c.args in
     let e = c.put_counted-end.ensures in
-    record { value = omega (arith, e.value, title-length a.title.now a.named a.positionals); out_after = title-written _ _ _ _ _ _ _ _ _ e.out_after e.value c.flag_byte.ensures c.put_two.ensures }
+    record { value = omega (arith, e.value, title-length a.title.now a.named a.positionals); out_after = title-written _ _ _ _ _ _ _ _ _ e.out_after e.value (c.from.ensures ∙ flag-byte a.named) c.put_two.ensures }

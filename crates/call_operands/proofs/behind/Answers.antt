@@ -1,0 +1,13 @@
+use Rattle.std.proofs.Common.{◌≡◌, drop, arith, ap, ◌∙◌}
+use Rattle.std.proofs.lemmas.List.{drop-drop}
+use Rattle.call_operands.proofs.Walk.{one-less}
+use Rattle.call_operands.proofs.behind.Goals as goal
+
+pub loop-preserved : goal.loop-preserved
+loop-preserved g c =
+    one-less g.P.Divides.lexemes g.P.Divides.left _ _ _ c.next_part.ensures ∙ (ap (drop 1) c.loop.invariant ∙ drop-drop 1 c.loop.counter (g.P.Divides.left c.args.parts))
+
+pub returns : goal.returns
+returns g c =
+    let all : c.loop.counter ≡ c.args.number = omega (arith, c.loop-test.false, c.loop.auto.counter-end) in
+    c.loop.invariant ∙ ap (λ n. drop n (g.P.Divides.left c.args.parts)) all
