@@ -4,7 +4,7 @@
 ghost use Rattle.std.specs.Prelude.{◌≡◌, true, false, ℕ, ◌+◌, ◌-◌, ◌≤◌, length, drop};
 ghost use Rattle.std.specs.Iterator.{YieldsFirstBy, item_count};
 ghost use Rattle.rules.specs.Lexemes.{byte_of, outside};
-ghost use Rattle.rules.specs.Calls.{pair_up, divided, has_equals, operands_of};
+ghost use Rattle.rules.specs.Calls.{pair_up, divided, operands_of};
 ghost use Rattle.rules.specs.Evaluate.{Cell};
 ghost use Rattle.value_sums.specs.Answers.{toks_by};
 ghost use Rattle.call_operands.specs.Cuts.{IsCut};
@@ -84,13 +84,6 @@ impl<'a> Iterator for Parts<'a> {
         self.rest = rest.get(end + 1..);
         Some(&rest[..end])
     }
-}
-
-// Whether the part has `=` outside quotes and parentheses.
-pub fn has_equals(part: &[u8]) -> bool
-    ensures { result ≡ has_equals (lexemes part.now) }
-{
-    bare_at(part, 0, b'=') < part.len()
 }
 
 impl<'a> Divides<'a> for Parts<'a> {

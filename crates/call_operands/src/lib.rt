@@ -41,7 +41,7 @@ pub trait Divides<'a>: Copy {
 }
 
 // Whether the part has `=` outside quotes and parentheses.
-fn has_equals<'a, P: Divides<'a>>(part: &[u8]) -> bool
+pub fn has_equals<'a, P: Divides<'a>>(part: &[u8]) -> bool
     ensures { result ≡ has_equals (P.lexemes part.now) }
 {
     P::equals_in(part) < part.len()
@@ -124,7 +124,9 @@ pub fn behind<'a, P: Divides<'a>>(parts: P, number: usize) -> P
 {
     let mut rest = parts;
     for _ in 0..number {
-        let _ = rest.next_part();
+        let Some(_) = rest.next_part() else {
+            return rest;
+        };
     }
     rest
 }

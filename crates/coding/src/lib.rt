@@ -20,7 +20,7 @@ pub struct Before {
 
 impl Before {
     // Nothing stands before a field's start.
-    const START: Before = Before {
+    pub const START: Before = Before {
         second: b' ',
         first: b' ',
         quoted: false,

@@ -10,9 +10,10 @@ use borrow.Author.Tests.{lt-ltb, le-ltb, ltb-true, ltb-false}
 use Rattle.text.specs.Bytes.{Bytes}
 use Rattle.rules.specs.Fields.{lines_of}
 use Rattle.rules.specs.Machine.{State, uses, reaching, opened, open_move, move}
+use Rattle.rules.specs.Choice.{choose}
 use Rattle.rules.proofs.Choices.{by, chosen, passed_over}
 use Rattle.deck.specs.Slots.{Deck, machine_of_deck}
-use Rattle.lines.specs.Ends.{line_end}
+use Rattle.lines.specs.Ends.{line_end, past_newline}
 use Rattle.lines.proofs.Found.{line-found}
 use Rattle.expand_levels.specs.Stack.{Sized, levels_of}
 use Rattle.expand_levels.proofs.Stacks.{empty-run}
@@ -26,6 +27,10 @@ use Rattle.expand_steps.specs.declared.Stepped.{Stepped}
 use Rattle.expand_steps.proofs.Readied.{good-is, good-ready}
 
 -- behind a newline, or at the end
+pub past-is : (s : Bytes) (end : ℕ) → past_newline s end ≡ past_of end (length s)
+unfolding past_newline past_of
+past-is s end = ap (λ n. choose (ltb end (length s)) n end) (add-one end)
+
 pub past-told : (end size : ℕ) → end < size → end + 1 ≡ past_of end size
 unfolding past_of
 past-told end size h = add-one end ∙ sym (chosen _ _ (lt-ltb end size h))

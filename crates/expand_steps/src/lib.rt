@@ -252,14 +252,6 @@ fn body_step(deck: &[u8], out: &mut [u8], work: &mut [u8], run: Run) -> Stepped
     }
 }
 
-// Behind the newline at `end`, or there if the file ends.
-#[tactic(auto, unfolding(crate::specs::Runs::past_of, rules::specs::Choice::choose))]
-fn past(end: usize, size: usize) -> usize
-    ensures { result ≡ past_of end size }
-{
-    if end < size { end + 1 } else { end }
-}
-
 // An open line more, and the program read to a place.
 #[tactic(auto, unfolding(crate::specs::Runs::opened_at))]
 fn open_at(run: Run, at: usize) -> Run
@@ -281,7 +273,7 @@ fn opens(deck: &[u8], program: &[u8], out: &mut [u8], work: &mut [u8], run: Run)
 {
     let at = run.at;
     let end = lines::line_end(program, at);
-    let next = open_at(run, past(end, program.len()));
+    let next = open_at(run, lines::past_newline(program, end));
     let running = run.running;
     let line = &program[at..end];
     uses(deck, out, work, line, next, running)

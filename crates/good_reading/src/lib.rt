@@ -117,11 +117,7 @@ pub fn is_field(code: &[u8], quotes: bool) -> bool
     ensures { result ≡ is_field quotes (map slot_lex code.now) }
 {
     let mut trail = Trail {
-        before: Before {
-            second: b' ',
-            first: b' ',
-            quoted: false,
-        },
+        before: Before::START,
         odd: false,
     };
     for (i, &c) in code.iter().enumerate() {

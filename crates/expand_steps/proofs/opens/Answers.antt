@@ -4,7 +4,7 @@ use mathlib.Core.Path.{ap, ◌∙◌}
 use native.Mathlib.Omega.{arith}
 use lib.ListN.{length}
 use Rattle.expand_steps.specs.Runs.{opened_at}
-use Rattle.expand_steps.proofs.Opening.{steps-open, open-asks}
+use Rattle.expand_steps.proofs.Opening.{past-is, steps-open, open-asks}
 use Rattle.expand_steps.proofs.opens.Goals as goal
 
 pub open_at-next-requires : goal.open_at-next-requires
@@ -17,4 +17,4 @@ pub returns : goal.returns
 returns c =
     let within : c.line_end-end.result ≤ length c.args.program.now = omega arith in
     steps-open c.args.deck.now c.args.program.now c.args.out.now c.args.work.now c.args.run c.requires.0 c.requires.3 c.requires.4 _ c.line_end-end.ensures.value within _ _ _ _
-    (c.open_at-next.ensures ∙ ap (λ a. opened_at a c.args.run) c.past.ensures) c.uses.ensures
+    (c.open_at-next.ensures ∙ ap (λ a. opened_at a c.args.run) (c.past_newline.ensures ∙ past-is _ _)) c.uses.ensures
