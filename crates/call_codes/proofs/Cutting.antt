@@ -1,25 +1,25 @@
 -- Lexemes divide at their first bare comma, for every sense of a symbol; and the parts of a field's codes by place. Assumes nothing.
-use Prim.Native.Nat.{ℕ, zero, suc, ◌+◌, ◌≤◌, ◌<◌}
+use Prim.Native.Nat.{ℕ, zero, suc, ◌+◌, ◌-◌, ◌≤◌, ◌<◌}
 use native.Mathlib.Omega.{arith}
 use native.Mathlib.Nat.{not-suc-le-zero}
 use mathlib.Core.Path.{◌≡◌, refl, ap, sym, ◌∙◌}
 use mathlib.Core.Bool.{Bool, true, false, not}
 use mathlib.Core.List.{List, [], ◌∷◌}
-use lib.Dec.{eqb}
-use lib.ListN.{length, take, drop}
+use lib.Dec.{eqb, leb}
+use lib.ListN.{length, take, drop, length-drop}
 use Rattle.std.specs.Prelude.{Option, Some, None}
 use Rattle.std.specs.Borrow.{Bor}
 use Rattle.std.specs.Slice.{IsGetRangeResult}
 use Rattle.std.proofs.lemmas.List.{take_rest}
 use borrow.Author.Rules.{rules}
-use lib.Seq.{take_all}
-use borrow.Author.Tests.{eqb-true}
+use lib.Seq.{take_all, drop-drop}
+use borrow.Author.Tests.{eqb-true, le-leb, lt-leb, leb-true, leb-false}
 use Rattle.text.specs.Bytes.{Bytes}
 use Rattle.rules.specs.Choice.{passed, on_first}
 use Rattle.rules.specs.Lexemes.{comma, Lex, byte_of, Inside, outside, enters, is_bare}
 use Rattle.rules.specs.Calls.{parts, divided}
 use Rattle.rules.proofs.Choices.{by, either, chosen, passed_over, and_left, and_right}
-use Rattle.call_codes.specs.Codes.{code_lex, lexemes, cut_at, parts_of_rest}
+use Rattle.call_codes.specs.Codes.{code_lex, lexemes, cut_at, parts_from, parts_of_rest}
 
 -- ---- lexemes
 
@@ -107,6 +107,48 @@ module _ (s : Bytes) (end : ℕ) (q : end ≡ 0 + cut_at comma s) where
       parts_cut outside (lexemes s) (omega (arith, q, inside, lexemes-length s))
       ∙ (λ i. (lexemes-take n s ∙ ap (λ (k : ℕ). lexemes (take k s)) size) i
       ∷ ap (parts outside) (lexemes-drop (suc n) s ∙ ap lexemes (ap (λ (k : ℕ). drop k s) z ∙ (sym (take_rest s (end + 1)) ∙ sym g.0.2))) i)
+
+-- ---- by place
+
+module _ (s : Bytes) where
+  from_is : (at : ℕ) → at ≤ length s → parts_from s at ≡ parts outside (lexemes (drop at s))
+  unfolding parts_from
+  from_is at h = chosen _ _ (le-leb at (length s) h)
+
+  -- behind the field's end none starts
+  pub rest-done : (at : ℕ) → length s < at → parts_from s at ≡ []
+  unfolding parts_from
+  rest-done at h = passed_over _ _ (lt-leb at (length s) h)
+
+  pub all_rest : (length s ≡ 0 → ⊥) → divided (lexemes s) ≡ parts_from s 0
+  all_rest n = parts-start s n ∙ sym (from_is 0 (omega arith))
+
+-- the first of the parts from a place on, which ends at `end`, and those behind its comma
+pub rest-on : (s : Bytes) (at end : ℕ) → at ≤ length s → end ≡ at + cut_at comma (drop at s)
+    → parts_from s at ≡ lexemes (take (end - at) (drop at s)) ∷ parts_from s (end + 1)
+unfolding cut_at
+rest-on s at end h e =
+    let t = drop at s in
+    let x = lexemes t in
+    let n = passed (is_bare comma) enters outside x in
+    let l = length-drop at s in
+    let m = lexemes-length t in
+    let size : n ≡ end - at = omega (arith, e) in
+    from_is s at h
+    ∙ by (leb (suc n) (length x))
+    (λ k.
+    let lt : n < length x = leb-true (suc n) (length x) k in
+    let z : at + suc n ≡ end + 1 = omega (arith, e) in
+    parts_cut outside x lt
+    ∙ (λ i. (lexemes-take n t ∙ ap (λ (k : ℕ). lexemes (take k t)) size) i
+    ∷ (ap (parts outside) (lexemes-drop (suc n) t ∙ ap lexemes (drop-drop (suc n) at s ∙ ap (λ (k : ℕ). drop k s) z)) ∙ sym (from_is s (end + 1) (omega (arith, e, l, m, lt)))) i))
+    (λ k.
+    let q = leb-false (suc n) (length x) k in
+    let le : length x ≤ n = omega (arith, q) in
+    parts_last outside x le
+    ∙ (λ i. ap lexemes (sym (take_all n t (omega (arith, m, le))) ∙ ap (λ (k : ℕ). take k t) size) i ∷ sym (rest-done s (end + 1) (omega (arith, e, l, m, le, h))) i))
+
+-- ---- how many
 
 -- there are no more parts than codes, and one
 few-within : (i : Inside) (x : List (Lex ℕ)) → length (parts i x) ≤ suc (length x)

@@ -1,5 +1,5 @@
 -- A call's operand field in a deck: one byte for each lexeme. How it divides does not depend on what its symbols stand for. Assumes nothing.
-use Rattle.std.specs.Prelude.{ℕ, List, [], map, Option as Found, Some, None, eqb, ltb}
+use Rattle.std.specs.Prelude.{ℕ, List, [], map, Option as Found, Some, None, eqb, leb, ltb, length, drop}
 use Rattle.std.specs.Borrow.{Bor}
 use Rattle.std.proofs.Math.Option.{Option, none, some}
 use Rattle.text.specs.Bytes.{Bytes}
@@ -21,6 +21,10 @@ lexemes code = map code_lex code
 -- how many bytes stand before the first text byte c outside quotes and parentheses; all of them where there is none
 unfoldable pub cut_at : ℕ → Bytes → ℕ
 cut_at c code = passed (is_bare c) enters outside (lexemes code)
+
+-- the parts from a place on at which one starts; none starts behind the field's end
+unfoldable pub parts_from : Bytes → ℕ → List (List (Lex ℕ))
+parts_from code at = choose (leb at (length code)) (parts outside (lexemes (drop at code))) []
 
 -- what is left of a field that is told part by part: nothing, or the field from the next part's start on
 abbrev pub parts_of_rest : Found (Bor Bytes) → List (List (Lex ℕ))

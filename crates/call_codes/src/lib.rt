@@ -8,7 +8,7 @@ ghost use Rattle.rules.specs.Calls.{pair_up, divided, operands_of};
 ghost use Rattle.rules.specs.Evaluate.{Cell};
 ghost use Rattle.value_sums.specs.Answers.{toks_by};
 ghost use Rattle.call_operands.specs.Cuts.{IsCut};
-ghost use Rattle.call_codes.specs.Codes.{code_lex, lexemes, cut_at, parts_left, split_by};
+ghost use Rattle.call_codes.specs.Codes.{code_lex, lexemes, cut_at, parts_from, parts_left, split_by};
 
 use call_operands::Divides;
 
@@ -125,4 +125,22 @@ pub fn parts_behind(code: &[u8], number: usize) -> Parts
     ensures { parts_left result ≡ drop number (divided (lexemes code.now)) }
 {
     call_operands::behind(Parts::of(code), number)
+}
+
+// Where the part of this number starts; a place behind the field's end where there is none.
+pub fn part_at(code: &[u8], number: usize) -> usize
+    ensures result_value { parts_from code.now result ≡ drop number (divided (lexemes code.now)) }
+    ensures upper_bound { result ≤ length code.now + 1 }
+{
+    if code.is_empty() {
+        return 1;
+    }
+    let mut at = 0;
+    for _part in 0..number {
+        if code.len() < at {
+            return at;
+        }
+        at = bare_at(code, at, b',') + 1;
+    }
+    at
 }

@@ -1,4 +1,4 @@
--- What the answers say of a call: its keywords are those given by the parts behind its positionals, and whether the macro knows them. Assumes nothing.
+-- What the answers say of a call: its keywords are those given by the parts behind its positionals, or from where these start, and whether the macro knows them. Assumes nothing.
 use Prim.Native.Nat.{ℕ}
 use mathlib.Core.Path.{◌≡◌, ap, sym}
 use mathlib.Core.List.{map}
@@ -6,9 +6,9 @@ use lib.ListN.{drop}
 use Rattle.text.specs.Bytes.{Bytes}
 use Rattle.rules.specs.Machine.{Header, Call, knows_keywords}
 use Rattle.parts.specs.declared.Parts.{Parts}
-use Rattle.parts.specs.Parts.{parts_of, parts_left}
+use Rattle.parts.specs.Parts.{parts_from, parts_of, parts_left}
 use Rattle.call_operands.specs.Calling.{keyword_in}
-use Rattle.call_keywords.specs.Defaults.{keywords_at, given_by, are_known}
+use Rattle.call_keywords.specs.Defaults.{keywords_at, given_by, given_from, are_known}
 
 -- `call_operands::divide` answered n positionals, and `given` are the parts behind the first n
 pub given_is : (s : Bytes) (n : ℕ) (given : Parts) → parts_left given ≡ drop n (parts_of s) → given_by given ≡ map keyword_in (drop n (parts_of s))
@@ -19,3 +19,16 @@ pub knows-is : (deck : Bytes) (at count : ℕ) (given : Parts) (h : Header) (c :
     → are_known (keywords_at deck at count) (given_by given) ≡ knows_keywords h c
 unfolding are_known knows_keywords
 knows-is deck at count given h c e f = λ i. are_known (sym e i) (sym f i)
+
+-- ---- by place
+
+-- the part of number n starts at `from`
+pub placed-is : (s : Bytes) (n from : ℕ) → parts_from s from ≡ drop n (parts_of s) → given_from s from ≡ map keyword_in (drop n (parts_of s))
+unfolding given_from
+placed-is s n from e = ap (map keyword_in) e
+
+-- the call's keywords are given from `from` on
+pub knows-placed : (deck s : Bytes) (at count from : ℕ) (h : Header) (c : Call) → h.keywords ≡ keywords_at deck at count → c.operands.keywords ≡ given_from s from
+    → are_known (keywords_at deck at count) (given_from s from) ≡ knows_keywords h c
+unfolding are_known knows_keywords
+knows-placed deck s at count from h c e f = λ i. are_known (sym e i) (sym f i)

@@ -1,14 +1,14 @@
 // The operands of a call: a field divided at its commas, the positionals first, then the keywords.
 #![tactic(auto)]
 
-ghost use Rattle.std.specs.Prelude.{◌≡◌, true, false, map, drop, List, length, ◌<◌, ◌≤◌, ◌^◌};
+ghost use Rattle.std.specs.Prelude.{◌≡◌, true, false, map, drop, List, length, ◌+◌, ◌<◌, ◌≤◌, ◌^◌};
 ghost use Rattle.std.specs.Iterator.{YieldsFirstBy};
 ghost use Rattle.text.specs.Bytes.{Bytes, same};
 ghost use Rattle.rules.specs.Limits.{name_limit};
 ghost use Rattle.rules.specs.Lexemes.{Lex, lexed, is_name};
 ghost use Rattle.rules.specs.Calls.{has_equals};
 ghost use Rattle.rules.specs.Machine.{written_operands};
-ghost use Rattle.parts.specs.Parts.{parts_of, parts_left};
+ghost use Rattle.parts.specs.Parts.{parts_of, parts_left, parts_from};
 ghost use Rattle.call_operands.specs.Cuts.{IsCut};
 ghost use Rattle.call_operands.specs.Calling.{name_of, named_among, may_stand, are_operands, leading, keyword_in, operands_in};
 
@@ -173,4 +173,22 @@ pub fn parts_behind(operand: &[u8], number: usize) -> Parts
     ensures { parts_left result ≡ drop number (parts_of operand.now) }
 {
     behind(Parts::of(operand), number)
+}
+
+// Where the part of this number starts; a place behind the operand's end where there is none.
+pub fn part_at(operand: &[u8], number: usize) -> usize
+    ensures result_value { parts_from operand.now result ≡ drop number (parts_of operand.now) }
+    ensures upper_bound { result ≤ length operand.now + 1 }
+{
+    if operand.is_empty() {
+        return 1;
+    }
+    let mut at = 0;
+    for _part in 0..number {
+        if operand.len() < at {
+            return at;
+        }
+        at = parts::bare_at(operand, at, b',') + 1;
+    }
+    at
 }

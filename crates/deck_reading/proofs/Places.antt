@@ -24,7 +24,7 @@ use Rattle.kinds.specs.declared.Set.{Set as Kind}
 use Rattle.kinds.specs.declared.Set.TheVariants.{A}
 use Rattle.kinds.specs.declared.Does.{Does as Kept}
 use Rattle.kinds.specs.declared.Does.TheVariants.{Passes, Ends, Exits, Text, Models, BranchesIf, Branches, Counts, Sets}
-use Rattle.deck_reading.specs.Reading.{slot_lex, two_at, run_at, run_end, found, is_there, run_found, field_at, set_at, or_first, fields_line, line_by, line_at, sets_found, does_found, does_in, line_in}
+use Rattle.deck_reading.specs.Reading.{slot_lex, two_at, run_at, run_end, found, is_there, run_found, field_at, set_at, or_first, fields_line, line_by, line_at, sets_found, does_found, does_taken, does_by, does_in, line_in}
 use Rattle.deck_reading.proofs.Runs.{is_to, found-is, found-out, two-same, run-same, end_same, found-there}
 use Rattle.deck_reading.proofs.Lines.{field-same}
 
@@ -61,8 +61,8 @@ module _ (s : Bytes) where
 -- ---- what a line does
 
 -- what is none is taken as SETA's
-pub does-told : (k : ℕ) (s : Bytes) (at : ℕ) → unwrap_or (does_found k) (Sets A) ≡ does_for (line_by k s at).does
-unfolding does_found line_by choose doing fields_line set_at sets_found or_first
+pub does-told : (k : ℕ) (s : Bytes) (at : ℕ) → does_taken k ≡ does_for (line_by k s at).does
+unfolding does_taken does_found line_by choose doing fields_line set_at sets_found or_first
 does-told k s at =
     by (eqb k 0) (λ e. rw e) λ a. by (eqb k 1) (λ e. rw (a, e)) λ b. by (eqb k 2) (λ e. rw (a, b, e)) λ c. by (eqb k 3) (λ e. rw (a, b, c, e)) λ d. by (eqb k 4) (λ e. rw (a, b, c, d, e)) λ f.
     by (eqb k 5) (λ e. rw (a, b, c, d, f, e)) λ g. by (eqb k 6) (λ e. rw (a, b, c, d, f, g, e)) λ h. by (eqb k 7) (λ e. rw (a, b, c, d, f, g, h, e)) λ i. rw (a, b, c, d, f, g, h, i) (set (kind_of (k - 8)))
@@ -70,6 +70,19 @@ does-told k s at =
     set : (o : Option Set) → unwrap_or (sets_found o) (Sets A) ≡ Sets (set_for (or_first o))
     set none = refl
     set (some k) = refl
+
+-- what a byte is taken as means what the byte means
+pub taken-meant : (k : ℕ) (s : Bytes) (at : ℕ) → does_in (does_taken k) s at ≡ does_by k s at
+unfolding does_taken does_found does_by does_in choose set_at sets_found or_first
+taken-meant k s at =
+    by (eqb k 0) (λ e. rw e) λ a. by (eqb k 1) (λ e. rw (a, e)) λ b. by (eqb k 2) (λ e. rw (a, b, e)) λ c. by (eqb k 3) (λ e. rw (a, b, c, e)) λ d. by (eqb k 4) (λ e. rw (a, b, c, d, e)) λ f.
+    by (eqb k 5) (λ e. rw (a, b, c, d, f, e)) λ g. by (eqb k 6) (λ e. rw (a, b, c, d, f, g, e)) λ h. by (eqb k 7) (λ e. rw (a, b, c, d, f, g, h, e)) λ i. rw (a, b, c, d, f, g, h, i) (set (kind_of (k - 8)))
+  where
+    set : (o : Option Set) → does_in (unwrap_or (sets_found o) (Sets A)) s at ≡ sets (or_first o)
+    set none = refl
+    set (some set_a) = refl
+    set (some set_b) = refl
+    set (some set_c) = refl
 
 -- ---- a line's fields
 

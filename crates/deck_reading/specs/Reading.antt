@@ -1,5 +1,5 @@
 -- A deck's lines where they stand in its bytes: total, so that they are read again without a test once the deck is known to be in good form.
-use Rattle.std.specs.Prelude.{ℕ, ◌+◌, ◌*◌, ◌-◌, Bool, ◌&&◌, List, [], map, eqb, leb, ltb, length, get_or, drop, Option as Found, Some, None}
+use Rattle.std.specs.Prelude.{ℕ, ◌+◌, ◌*◌, ◌-◌, Bool, ◌&&◌, List, [], map, eqb, leb, ltb, length, get_or, drop, unwrap_or, Option as Found, Some, None}
 use Rattle.std.proofs.Math.Option.{Option, none, some}
 use Rattle.text.specs.Bytes.{Bytes}
 use Rattle.rules.specs.Choice.{choose, every}
@@ -9,6 +9,7 @@ use Rattle.deck.specs.Slots.{Slot}
 use Rattle.deck.specs.Coders.{lex_of, set_of, passes_code, ends_code, exits_code, text_code, models_code, branches_if_code, branches_code, counts_code, sets_code}
 use Rattle.spans.specs.Spans.{part_of}
 use Rattle.kinds.specs.Kinds.{set_for, set_of as meant}
+use Rattle.kinds.specs.declared.Set.TheVariants.{A}
 use Rattle.kinds.specs.declared.Does.{Does as Kept}
 use Rattle.kinds.specs.declared.Does.TheVariants.{Passes, Ends, Exits, Text, Models, BranchesIf, Branches, Counts, Sets}
 use Rattle.deck_reading.specs.declared.Fields.{Fields}
@@ -118,6 +119,21 @@ does_in BranchesIf s at = branches_if (two_at s at)
 does_in Branches s at = branches (two_at s at)
 does_in Counts s at = counts
 does_in (Sets k) s at = sets (meant k)
+
+-- a byte that no line has is taken as SETA's
+unfoldable pub does_taken : ℕ → Kept
+does_taken k = unwrap_or (does_found k) (Sets A)
+
+-- by the byte itself: what is none of a line's is taken as SETA's
+unfoldable pub does_by : ℕ → Bytes → ℕ → Does ℕ
+does_by k s at =
+    choose (eqb k passes_code) passes
+    (choose (eqb k ends_code) ends
+    (choose (eqb k exits_code) exits
+    (choose (eqb k text_code) (text (run_at s at))
+    (choose (eqb k models_code) models
+    (choose (eqb k branches_if_code) (branches_if (two_at s at))
+    (choose (eqb k branches_code) (branches (two_at s at)) (choose (eqb k counts_code) counts (sets (set_at (k - sets_code))))))))))
 
 unfoldable pub line_in : Bytes → Fields → Line Slot ℕ
 line_in s f = fields_line (does_in f.does s f.first) (field_at s f.name) (field_at s f.operation) (field_at s f.operand)

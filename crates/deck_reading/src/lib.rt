@@ -1,11 +1,12 @@
 // A deck's heads and lines, read from its bytes.
 #![tactic(auto)]
 
-ghost use Rattle.std.specs.Prelude.{◌≡◌, ◌+◌, ◌<◌, drop};
+ghost use Rattle.std.specs.Prelude.{◌≡◌, ◌+◌, ◌<◌, ℕ, drop};
+ghost use Rattle.text.specs.Bytes.{Bytes};
 ghost use Rattle.deck.specs.Coding.{two, pair, list_of};
 ghost use Rattle.deck.specs.Coders.{field, string, flag, kind, line};
-ghost use Rattle.kinds.specs.Kinds.{does_for};
-ghost use Rattle.deck_reading.specs.Reading.{two_at, run_at, run_end, found, run_found, below_found, field_at, flag_at, kinds_at, keyword_at, line_at, does_found, line_in, reads};
+ghost use Rattle.kinds.specs.Kinds.{set_for, does_for};
+ghost use Rattle.deck_reading.specs.Reading.{two_at, run_at, run_end, found, run_found, below_found, field_at, flag_at, kinds_at, keyword_at, set_at, line_at, does_found, does_taken, does_by, does_in, line_in, reads};
 
 use kinds::{Does, Set};
 
@@ -63,8 +64,9 @@ pub fn run_at(s: &[u8], at: usize) -> &[u8]
 fn run_below(s: &[u8], at: usize, limit: u8) -> Option<usize>
     ensures { result ≡ below_found limit s.now at }
 {
+    let end = run_end(s, at)?;
     let below = run_at(s, at).iter().all(|&b| b < limit);
-    if below { run_end(s, at) } else { None }
+    if below { Some(end) } else { None }
 }
 
 // The string at a place.
@@ -133,6 +135,25 @@ pub fn does_of(code: u8) -> Option<Does>
     }
 }
 
+// What a line with this first byte does; a byte that no line has is taken as SETA's.
+pub fn does_taken(code: u8) -> Does
+    ensures value { result ≡ does_taken code }
+    ensures meaning { (s : Bytes) (at : ℕ) → does_in result s at ≡ does_by code s at }
+{
+    does_of(code).unwrap_or(Does::Sets(Set::A))
+}
+
+// The kind of SET symbols with this number; SETA where none has it.
+pub fn set_numbered(number: u8) -> Set
+    ensures { result ≡ set_for (set_at number) }
+{
+    match number {
+        1 => Set::B,
+        2 => Set::C,
+        _ => Set::A,
+    }
+}
+
 // The line at a place.
 pub fn read_line(s: &[u8], at: usize) -> Option<usize>
     ensures { reads (line_at s.now at) s.now result ≡ line.get (drop at s.now) }
@@ -177,7 +198,7 @@ pub fn behind_two(s: &[u8], at: usize) -> usize
 pub fn does_at(s: &[u8], at: usize) -> Does
     ensures { result ≡ does_for (line_at s.now at).does }
 {
-    does_of(lent::byte(s, at)).unwrap_or(Does::Sets(Set::A))
+    does_taken(lent::byte(s, at))
 }
 
 // What the line at a place does, and where its fields stand.

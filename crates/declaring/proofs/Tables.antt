@@ -35,7 +35,7 @@ among-told t n k e =
     (λ a. lt-ltb k (length t / 8) (omega (arith, e, names-length t, known-place n (names_in t) a)) ∙ sym a)
     (λ a. le-ltb k (length t / 8) (omega (arith, e, names-length t, unknown-place n (names_in t) a)) ∙ sym a)
 
-any_append : {A : Type 0} (test : A → Bool) (s t : List A) → any test (s ++ t) ≡ (any test s || any test t)
+pub any_append : {A : Type 0} (test : A → Bool) (s t : List A) → any test (s ++ t) ≡ (any test s || any test t)
 unfolding any
 any_append test [] t = refl
 any_append test (a ∷ s) t = go (test a) (any test s) (any test t) (any_append test s t)

@@ -10,7 +10,7 @@ use lib.Seq.{get_or-set_same, get_or-set_other}
 use borrow.Author.Tests.{eqb-true, eqb-false, lt-ltb}
 use Rattle.text.specs.Bytes.{Bytes}
 use Rattle.rules.specs.Choice.{choose}
-use Rattle.rules.specs.Limits.{counter_spent}
+use Rattle.rules.specs.Limits.{counter_spent, steps_spent}
 use Rattle.rules.specs.Decide.{Act, next, leave, jump, renew, refuse}
 use Rattle.rules.specs.Machine.{State, refused, on, body_line, refused_at, refuses, with_levels, advanced, jumped, renewed_to, acts}
 use Rattle.rules.specs.Machine.{Level as RunningLevel}
@@ -28,7 +28,7 @@ use Rattle.expand_steps.specs.Runs.{with_running, goes_on, stops_by}
 use Rattle.refusals.specs.declared.Fault.{Fault}
 use Rattle.refusals.specs.declared.Fault.TheVariants.{CounterSpent}
 use Rattle.refusals.specs.Numbers.{number_of}
-use Rattle.expand_steps.specs.declared.Halt.TheVariants.{Refused}
+use Rattle.expand_steps.specs.declared.Halt.TheVariants.{Refused, StepsSpent}
 use Rattle.expand_steps.specs.declared.Run.{Run}
 use Rattle.expand_steps.specs.declared.Stepped.{Stepped}
 
@@ -169,6 +169,14 @@ pub refused-so : (d : Deck) (deck program out w : Bytes) (run : Run) (s : State)
 unfolding refuses
 refused-so d deck program out w run s f at z h = halts (refused-listed d deck program out w run s f at z h)
 
+-- a run whose steps are spent stops with that refusal
+pub spent-listed : (d : Deck) (deck program out w : Bytes) (run : Run) (s : State) → Sized run.running → StandsFor d deck program out w run s
+    → Listed out (stops_by StepsSpent run) (refused_at steps_spent s)
+unfolding stops_by refused_at
+spent-listed d deck program out w run s z h =
+    let b = body_is d deck program out w run s z h in
+    subst (Listed out (stops_by StepsSpent run)) (λ j. refused steps_spent (sym h.open-line j) (sym b j) (sym h.steps-taken j)) (stopped steps_spent refl)
+
 pub refusing : (run : Run) (z : Sized run.running) (f : Fault) (at : ℕ) (act : Act)
     → ((d : Deck) (deck program out w : Bytes) (s : State) → StandsFor d deck program out w run s → acts (machine_of_deck d) act (top_in d deck w run) (others_in d deck w run) s ≡ refuses (number_of f) s)
     → Arm run act (stops_by (Refused f at) run)
@@ -224,3 +232,13 @@ module _ (run : Run) (z : Sized run.running) (r : Stepped) where
   pub refused-line : (f : Fault) (at left : ℕ) → r ≡ stops_by (Refused f at) run → Arm run (refuse (number_of f) left) r
   unfolding acts
   refused-line f at left is = subst (Arm run (refuse (number_of f) left)) (sym is) (refusing run z f at (refuse (number_of f) left) (λ d deck program out w s k. refl))
+
+  pub spent-line : (left : ℕ) → r ≡ stops_by StepsSpent run → Arm run (refuse steps_spent left) r
+  unfolding acts refuses stops_by
+  spent-line left is =
+      subst (Arm run (refuse steps_spent left)) (sym is) (record {
+        sound = λ program out h. h;
+        same-steps = refl;
+        same-pos = refl;
+        moved = λ d deck program out w s h. halts (spent-listed d deck program out w run s z h);
+      })

@@ -2,6 +2,7 @@
 #![tactic(auto)]
 
 ghost use Rattle.std.specs.Prelude.{◌≡◌, ℕ, ◌≤◌, ◌<◌, ◌^◌, length};
+ghost use Rattle.rules.specs.Limits.{steps_spent};
 ghost use Rattle.rules.specs.Decide.{Act, next, leave, jump, renew, refuse, use'};
 ghost use Rattle.expand_levels.specs.Stack.{Sized, top_of};
 ghost use Rattle.expand_steps.specs.Moving.{Arm, InMacro, OnLine};
@@ -18,7 +19,7 @@ ghost use Rattle.rules.specs.Evaluate.{Cell};
 ghost use Rattle.rules.specs.Statement.{map_line};
 ghost use Rattle.rules.specs.Decide.{decide};
 ghost use Rattle.deck_reading.specs.Reading.{run_at, line_in};
-ghost use Rattle.expand_steps.specs.Runs.{ticked, past_of, opened_at, with_running, put_to, goes_on, stops_by};
+ghost use Rattle.expand_steps.specs.Runs.{ticked, past_of, opened_at, with_running, put_to, goes_on, stops_by, halt_found};
 
 use deck_reading::Fields;
 use expand_levels::{CallNumber, Running};
@@ -45,6 +46,35 @@ pub enum Halt {
     Unready,
     Refused { fault: Fault, at: usize },
     StepsSpent,
+}
+
+// What a number says of a run: 0, it goes on; 1 to 15, the refusal of that number; 16, the steps are spent; 254, no arm does the line yet; 255, all is done. Another number says nothing.
+pub fn halt_of(number: u8, at: usize) -> Option<Halt>
+    ensures { result ≡ halt_found number at }
+{
+    let fault = match number {
+        0 => return Some(Halt::GoesOn),
+        1 => Fault::BadByte,
+        2 => Fault::OutOfPlace,
+        3 => Fault::BadName,
+        4 => Fault::IllFormed,
+        5 => Fault::OverLimit,
+        6 => Fault::BadCall,
+        7 => Fault::TooLong,
+        8 => Fault::BadValue,
+        9 => Fault::CounterSpent,
+        10 => Fault::LevelSix,
+        11 => Fault::CallsSpent,
+        12 => Fault::BadDeck,
+        13 => Fault::ShortWorkspace,
+        14 => Fault::NoRoom,
+        15 => Fault::LanguageWord,
+        16 => return Some(Halt::StepsSpent),
+        254 => return Some(Halt::Unready),
+        255 => return Some(Halt::Done),
+        _ => return None,
+    };
+    Some(Halt::Refused { fault, at })
 }
 
 // What a step leaves.
@@ -142,6 +172,14 @@ pub fn refuses(run: Run, fault: Fault, at: usize) -> Stepped
     ensures { (left : ℕ) → Arm run (refuse (number_of fault) left) result }
 {
     stop(run, Halt::Refused { fault, at })
+}
+
+// The steps that were lent are spent.
+pub fn spends(run: Run) -> Stepped
+    requires { InMacro run }
+    ensures { (left : ℕ) → Arm run (refuse steps_spent left) result }
+{
+    stop(run, Halt::StepsSpent)
 }
 
 // A line is put out up to `pos`, and the levels go on as these.

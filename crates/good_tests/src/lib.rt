@@ -57,7 +57,7 @@ fn is_lexeme(c: u8) -> bool
 pub fn are_lexemes(code: &[u8]) -> bool
     ensures { result ≡ are_lexemes (map slot_lex code.now) }
 {
-    (code.len() <= limits::LINE) & code.iter().all(|&c| is_lexeme(c))
+    code.len() <= limits::LINE && code.iter().all(|&c| is_lexeme(c))
 }
 
 // Whether a statement with these fields is used as it stands.

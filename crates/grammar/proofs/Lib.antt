@@ -8,3 +8,4 @@ pub mod Rules
 pub mod Texts
 pub mod Quotes
 pub mod Spaces
+pub mod Numbered

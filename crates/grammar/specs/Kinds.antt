@@ -1,8 +1,9 @@
--- Kinds of variable symbols: as numbers, and what stands first.
-use Rattle.std.specs.Prelude.{ℕ, List, [], ◌∷◌, Option, Some, None}
+-- Kinds of variable symbols: as numbers, what stands first, and which kinds may stand where, by a number.
+use Rattle.std.specs.Prelude.{ℕ, Bool, List, [], ◌∷◌, Option, Some, None, eqb}
+use Rattle.rules.specs.Choice.{choose}
 use Rattle.rules.specs.Lexemes.{Lex, byte, mark, ref, lone}
 use Rattle.rules.specs.Statement.{set_a, set_b, set_c}
-use Rattle.rules.specs.Grammar.{Kind, parameter, symbol, syslist, sysndx, sysect, unknown}
+use Rattle.rules.specs.Grammar.{Kind, parameter, symbol, syslist, sysndx, sysect, unknown, in_text, as_term, after_k, after_n, after_t}
 use Rattle.kinds.specs.declared.Kind.{Kind as Kept}
 use Rattle.kinds.specs.Kinds.{kind_for}
 
@@ -27,3 +28,7 @@ kind_shown lone = None
 unfoldable pub kind_first : List (Lex Kind) → Option Kept
 kind_first [] = None
 kind_first (y ∷ x) = kind_shown y
+
+-- where a reference stands: 0 as a term, 1 after K', 2 after N', 3 after T', any other in text
+unfoldable pub table_numbered : ℕ → Kind → Bool → Bool
+table_numbered n = choose (eqb n 0) as_term (choose (eqb n 1) after_k (choose (eqb n 2) after_n (choose (eqb n 3) after_t in_text)))

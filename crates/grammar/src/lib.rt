@@ -14,7 +14,7 @@ ghost use Rattle.rules.specs.Form.{Nothing, form};
 ghost use Rattle.kinds.specs.Kinds.{table_of, kind_for};
 ghost use Rattle.kinds.specs.Kinds.{kind_of as meant};
 ghost use Rattle.grammar.specs.Tokens.{kind_of, lex_of, toks_at, tells};
-ghost use Rattle.grammar.specs.Kinds.{kind_shown, kind_first};
+ghost use Rattle.grammar.specs.Kinds.{number_of, kind_shown, kind_first, table_numbered};
 ghost use Rattle.grammar.specs.Operands.{Operand, Tells, subscribed, expected, past_period, quote_goes, quoted_run, strings_by};
 
 use kinds::{Kind, Set, Stand};
@@ -66,6 +66,32 @@ pub fn kind_numbered(n: u8) -> Kind
         2 => Kind::Symbol(Set::B),
         3 => Kind::Symbol(Set::C),
         _ => Kind::Unknown,
+    }
+}
+
+// The kind of a variable symbol by its number among all kinds; unknown where it is none.
+pub fn kind_meant(number: u8) -> Kind
+    ensures { (k : Meant) → number ≡ number_of k → result ≡ kind_for k }
+{
+    match number {
+        0..=4 => kind_numbered(number),
+        5 => Kind::List,
+        6 => Kind::Index,
+        7 => Kind::Section,
+        _ => Kind::Unknown,
+    }
+}
+
+// Where a reference stands by its number: as a term, after K', after N', after T'; in text, whatever other number it is.
+pub fn stand_numbered(number: u8) -> Stand
+    ensures { table_of result ≡ table_numbered number }
+{
+    match number {
+        0 => Stand::Term,
+        1 => Stand::AfterK,
+        2 => Stand::AfterN,
+        3 => Stand::AfterT,
+        _ => Stand::Text,
     }
 }
 
@@ -143,6 +169,13 @@ pub fn closed(code: &[u8], at: usize) -> Formed
     ensures { (kinds : Bytes) → Tells (closed_by tt) kinds code.now at result }
 {
     expected(code, at, CLOSING)
+}
+
+// What was read, and the parenthesis that closes; a refusal stays one.
+pub fn closed_so(code: &[u8], so_far: Formed) -> Formed
+    ensures { (kinds : Bytes) → tells (toks_at kinds code.now) result ≡ then (tells (toks_at kinds code.now) so_far) closed_by }
+{
+    closed(code, so_far?)
 }
 
 // The largest number that can be written.

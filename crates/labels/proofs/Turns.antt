@@ -62,7 +62,7 @@ module _ (file : Bytes) (at end : ℕ) (h : at < length file) (e : end ≡ line_
     unfolding up_to size_of
     size_is q = ap (λ ls. size_of (up_to test ls)) (turn file at end h e) ∙ (λ i. suc (line-length file at end h e i) + size_of (q i))
 
-    behind-found : test (take (end - at) (drop at file)) ≡ true → behind test file at ≡ past_newline file end
+    pub behind-found : test (take (end - at) (drop at file)) ≡ true → behind test file at ≡ past_newline file end
     unfolding behind past_newline size_of
     behind-found t =
         let z = size_is (chosen [] rest t) in
@@ -70,7 +70,7 @@ module _ (file : Bytes) (at end : ℕ) (h : at < length file) (e : end ≡ line_
         either (λ n. behind test file at ≡ n) (ltb end (length file)) (λ u. let l = ltb-true end (length file) u in omega (arith, z, w.0))
         (λ u. let l = ltb-false end (length file) u in omega (arith, z, w.0, w.1))
 
-    behind-next : test (take (end - at) (drop at file)) ≡ false → behind test file at ≡ behind test file (past_newline file end)
+    pub behind-next : test (take (end - at) (drop at file)) ≡ false → behind test file at ≡ behind test file (past_newline file end)
     unfolding behind past_newline
     behind-next t =
         let z = size_is (passed_over [] rest t) in

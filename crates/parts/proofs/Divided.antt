@@ -150,6 +150,11 @@ parts-moved s at h =
     ∙ (within-any (length s) (length (drop at s)) (drop at s) (omega (arith, l)) (omega arith)
     ∙ sym (from_is (drop at s) 0 (omega arith)))
 
+-- what `get` gives from a place on: the parts from there
+pub left-at : (s : Bytes) (at : ℕ) (r : Option (Bor Bytes)) → IsGetRangeResult s at (length s) r → parts_of_rest r ≡ parts_from s at
+left-at s at None g = sym (parts-done s at (search (rules, g)))
+left-at s at (Some t) g = ap (λ (r : Bytes). parts_from r 0) (g.0.2 ∙ take_rest s at) ∙ sym (parts-moved s at (search (rules, g)))
+
 -- the first part of what is left, and what is left behind its comma
 module _ (s : Bytes) (end : ℕ) (q : end ≡ 0 + bare_at comma s) where
   pub first-inside : end < length s → parts_from s 0 ≡ take end s ∷ parts_from (drop (end + 1) s) 0

@@ -3,7 +3,7 @@
 
 ghost use Rattle.std.specs.Prelude.{◌≡◌, ◌+◌, ◌-◌, ◌≤◌, length, drop};
 ghost use Rattle.std.specs.Iterator.{YieldsFirstRef, item_count};
-ghost use Rattle.parts.specs.Parts.{bare_here, bare_at, parts_of, parts_left};
+ghost use Rattle.parts.specs.Parts.{bare_here, bare_at, parts_of, parts_from, parts_left};
 
 // Whether the byte `d`, which `next` follows (0 if nothing does), is the text byte `c` outside quotes and parentheses.
 pub fn is_bare(seen: fields::Seen, d: u8, next: u8, c: u8) -> bool
@@ -48,6 +48,15 @@ impl<'a> Parts<'a> {
         }
         Parts {
             rest: Some(operand),
+        }
+    }
+
+    // The parts from a place on at which one starts; behind the operand's end none starts.
+    pub fn at(operand: &'a [u8], at: usize) -> Parts<'a>
+        ensures { parts_left result ≡ parts_from operand.now at }
+    {
+        Parts {
+            rest: operand.get(at..),
         }
     }
 }

@@ -1,7 +1,7 @@
 // The refusals of document 01 as an answer, and their numbers.
 #![tactic(auto)]
 
-ghost use Rattle.std.specs.Prelude.{◌≡◌};
+ghost use Rattle.std.specs.Prelude.{◌≡◌, ◌≤◌};
 ghost use Rattle.refusals.specs.Numbers.{number_of};
 
 // 01's refusals, in the order of their numbers.
@@ -53,5 +53,28 @@ impl From<Fault> for u8 {
             Fault::NoRoom => 14,
             Fault::LanguageWord => 15,
         }
+    }
+}
+
+// The refusal with this number. (Of a number that no refusal has, it is the last one.)
+pub fn fault_of(number: u8) -> Fault
+    ensures { (1 ≤ number) → (number ≤ 15) → number_of result ≡ number }
+{
+    match number {
+        1 => Fault::BadByte,
+        2 => Fault::OutOfPlace,
+        3 => Fault::BadName,
+        4 => Fault::IllFormed,
+        5 => Fault::OverLimit,
+        6 => Fault::BadCall,
+        7 => Fault::TooLong,
+        8 => Fault::BadValue,
+        9 => Fault::CounterSpent,
+        10 => Fault::LevelSix,
+        11 => Fault::CallsSpent,
+        12 => Fault::BadDeck,
+        13 => Fault::ShortWorkspace,
+        14 => Fault::NoRoom,
+        _ => Fault::LanguageWord,
     }
 }

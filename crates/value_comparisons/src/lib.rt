@@ -6,7 +6,8 @@ ghost use Rattle.text.specs.Bytes.{bytes};
 ghost use Rattle.rules.specs.Values.{string_order, number_order};
 ghost use Rattle.rules.specs.Values.{holds as holds_by};
 ghost use Rattle.rules.specs.Lexemes.{Lex};
-ghost use Rattle.rules.specs.Grammar.{Got, past_spaces, is_word, relation_at, constant_at};
+ghost use Rattle.rules.specs.Grammar.{Got, got, then, past_spaces, is_word, relation_at, constant_at};
+ghost use Rattle.rules.specs.Grammar.{closed as closed_by};
 ghost use Rattle.rules.specs.Evaluate.{Cell};
 ghost use Rattle.rules.specs.Evaluate.{Truth as TruthOf};
 ghost use Rattle.value_sums.specs.Answers.{toks_by};
@@ -177,6 +178,60 @@ pub fn past_spaces(code: &[u8], at: usize) -> usize
     ensures { (held : ℕ → Cell) → toks_by held code.now result ≡ past_spaces (toks_by held code.now at) }
 {
     grammar::past_spaces(code, at)
+}
+
+// What may have been read, and the parenthesis that closes.
+pub fn closed(code: &[u8], so_far: Result<Read<Truth>, Refused>) -> Result<Read<Truth>, Refused>
+    ensures { (held : ℕ → Cell) → tells_truth (toks_by held code.now) result ≡ then (tells_truth (toks_by held code.now) so_far) closed_by }
+{
+    value_sums::closed(code, so_far?)
+}
+
+// What may have been read, and the spaces behind it.
+pub fn after_spaces(
+    code: &[u8],
+    so_far: Result<Read<Truth>, Refused>,
+) -> Result<Read<Truth>, Refused>
+    ensures { (held : ℕ → Cell) → tells_truth (toks_by held code.now) result ≡ then (tells_truth (toks_by held code.now) so_far) (λ b x. got b (past_spaces x)) }
+{
+    let read = so_far?;
+    Ok(Read {
+        value: read.value,
+        next: past_spaces(code, read.next),
+    })
+}
+
+// NOT before what may have been read.
+pub fn not_so(so_far: Result<Read<Truth>, Refused>) -> Result<Read<Truth>, Refused>
+    ensures { (from : ℕ → List (Lex Cell)) → tells_truth from result ≡ then (tells_truth from so_far) (λ b x. got (cutting.negated b) x) }
+{
+    let read = so_far?;
+    Ok(Read {
+        value: negated(read.value),
+        next: read.next,
+    })
+}
+
+// AND between a truth and what may have been read behind it.
+pub fn and_so(a: Truth, right: Result<Read<Truth>, Refused>) -> Result<Read<Truth>, Refused>
+    ensures { (from : ℕ → List (Lex Cell)) → tells_truth from result ≡ then (tells_truth from right) (λ b x. got (cutting.both (truth_in a) b) x) }
+{
+    let right = right?;
+    Ok(Read {
+        value: both(a, right.value),
+        next: right.next,
+    })
+}
+
+// OR between a truth and what may have been read behind it.
+pub fn or_so(a: Truth, right: Result<Read<Truth>, Refused>) -> Result<Read<Truth>, Refused>
+    ensures { (from : ℕ → List (Lex Cell)) → tells_truth from result ≡ then (tells_truth from right) (λ b x. got (cutting.either (truth_in a) b) x) }
+{
+    let right = right?;
+    Ok(Read {
+        value: either(a, right.value),
+        next: right.next,
+    })
 }
 
 // 0 or 1, which was read from `here` up to a place.

@@ -7,6 +7,7 @@ use mathlib.Core.List.{List, [], ◌∷◌}
 use mathlib.Core.Option.{Option, none, some}
 use lib.Dec.{T}
 use lib.ListN.{length, get_or}
+use lib.Seq.{take-length}
 use lib.IntN.{ℤ, pos, negsuc, nat_abs}
 use lib.Signed.{lt_z, non_neg}
 use mir.Syntax.{w32, w64}
@@ -19,7 +20,9 @@ use Rattle.rules.specs.Statement.{set_a, set_b, set_c}
 use Rattle.rules.specs.Values.{entry, listed as entry-at, number_in, number_of_entries, four_digits, magnitude}
 use Rattle.rules.specs.Grammar.{Kind, parameter, symbol, syslist, sysndx, sysect, unknown, Reference, as_term, after_k, after_n}
 use Rattle.rules.specs.Evaluate.{number, Cell, shown, and_then, of_parameter, of_list, text_of, as_number, count_bytes, count_entries, number_of as integer_of}
-use Rattle.std.specs.Prelude.{Some, None, IfSome}
+use Rattle.std.specs.Prelude.{Result, Ok, Err, Some, None, IfSome}
+use Rattle.value_sums.specs.declared.Read.{Read}
+use Rattle.value_sums.specs.declared.Refused.{Refused}
 use Rattle.std.specs.Prelude.{Option as Maybe}
 use Rattle.std.specs.Borrow.{Bor}
 use Rattle.std.proofs.lemmas.Option.{MatchOption-at_some}
@@ -27,10 +30,12 @@ use Rattle.kinds.specs.declared.Stand.{Stand}
 use Rattle.kinds.specs.declared.Stand.TheVariants.{Term, AfterK, AfterN, AfterT, Text as InText}
 use Rattle.kinds.specs.Kinds.{table_of}
 use Rattle.value_sums.specs.Answers.{option_of}
+use Rattle.spans.specs.Spans.{part_of}
+use Rattle.value_sublists.specs.Entries.{part_in}
 use Rattle.value_sublists.specs.Entries.{part_of as part_found}
 use Rattle.value_references.specs.declared.Subscripts.{Subscripts}
 use Rattle.value_references.specs.declared.Subscripts.TheVariants.{Bare, One, Two}
-use Rattle.value_references.specs.Referring.{ref_to, listed, place_of, first_of, is_placed, basis_of, meaning_of}
+use Rattle.value_references.specs.Referring.{ref_to, listed, place_of, first_of, first_read, is_placed, basis_of, meaning_of}
 
 pub bare-said : (s : Subscripts) → is_empty (listed s) ≡ true → s ≡ Bare
 unfolding listed is_empty
@@ -38,13 +43,27 @@ bare-said Bare h = refl
 bare-said (One a) h = absurd (true≢false (sym h))
 bare-said (Two a b) h = absurd (true≢false (sym h))
 
-pub found-none : part_found None ≡ none
-unfolding part_found
-found-none = refl
+module _ (s : Bytes) where
+  pub none-in : part_in s None ≡ none
+  unfolding part_in
+  none-in = refl
 
-pub found-some : (w : Bor Bytes) → part_found (Some w) ≡ some w.now
-unfolding part_found
-found-some w = refl
+  pub empty-in : part_in s (Some (record { at = 0; size = 0 })) ≡ some []
+  unfolding part_in part_of
+  empty-in = refl
+
+  pub all-in : part_in s (Some (record { at = 0; size = length s })) ≡ some s
+  unfolding part_in part_of
+  all-in = ap some (take-length s)
+
+module _ {s : Result (Read Subscripts) Refused} where
+  pub first-read : {r : Read Subscripts} {n : ℕ} → s ≡ Ok r → n ≡ first_of r.value → n ≡ first_read s
+  unfolding first_read
+  first-read is e = e ∙ sym (ap first_read is)
+
+  pub first-refused : {e : Refused} → s ≡ Err e → 0 ≡ first_read s
+  unfolding first_read
+  first-refused is = sym (ap first_read is)
 
 -- ---- of a parameter
 

@@ -1,5 +1,5 @@
 -- What a reference in a field says, and where what it stands for is kept.
-use Rattle.std.specs.Prelude.{ℕ, zero, suc, ◌+◌, ◌-◌, Bool, true, false, List, [], ◌∷◌, ltb, get_or, ℤ, pos, negsuc, Result, Some, None}
+use Rattle.std.specs.Prelude.{ℕ, zero, suc, ◌+◌, ◌-◌, Bool, true, false, List, [], ◌∷◌, ltb, get_or, ℤ, pos, negsuc, Result, Ok, Err, Some, None}
 use Rattle.std.specs.Prelude.{Option as Maybe}
 use Rattle.std.proofs.Math.Option.{Option, none}
 use Rattle.text.specs.Bytes.{Bytes}
@@ -43,6 +43,11 @@ unfoldable pub first_of : Subscripts → ℕ
 first_of Bare = 0
 first_of (One a) = place_of a
 first_of (Two a b) = place_of a
+
+-- of what may have been read; 0 for a refusal
+unfoldable pub first_read : Result (Read Subscripts) Refused → ℕ
+first_read (Ok r) = first_of r.value
+first_read (Err e) = 0
 
 -- the kind of the symbol that stands first, if one does
 unfoldable pub kind_by : List (Lex Cell) → Maybe Kept

@@ -1,7 +1,7 @@
 // What a reference stands for: its text where it is kept, and its number.
 #![tactic(auto)]
 
-ghost use Rattle.std.specs.Prelude.{◌≡◌, true, List, [], ℕ, pred, ◌+◌, ◌*◌, ◌≤◌, ◌<◌, length, get_or, pos, IfSome};
+ghost use Rattle.std.specs.Prelude.{◌≡◌, true, List, [], Some, ℕ, pred, ◌+◌, ◌*◌, ◌≤◌, ◌<◌, length, get_or, pos, IfSome};
 ghost use Rattle.text.specs.Bytes.{Bytes};
 ghost use Rattle.std.proofs.Math.Option.{some};
 ghost use Rattle.rules.specs.Values.{number_in, number_of_entries};
@@ -11,13 +11,16 @@ ghost use Rattle.rules.specs.Grammar.{as_term, after_k, after_n};
 ghost use Rattle.kinds.specs.Kinds.{kind_for, table_of};
 ghost use Rattle.grammar.specs.Tokens.{kind_of};
 ghost use Rattle.value_sums.specs.Answers.{option_of, toks_by};
+ghost use Rattle.value_sublists.specs.Entries.{part_in};
 ghost use Rattle.value_sublists.specs.Entries.{part_of as part_found};
 ghost use Rattle.work_frames.specs.Frames.{run_at, runs_at, place_in, parameter_at, level_in};
 ghost use Rattle.work_frames.specs.Layout.{text_in};
 ghost use Rattle.work_frames.specs.Holding.{set_kind, kind_in, Holding};
-ghost use Rattle.value_references.specs.Referring.{ref_to, listed, first_of, place_of, kind_by, cell_number, is_placed, basis_of, run_place, meaning_of};
+ghost use Rattle.value_references.specs.Referring.{ref_to, listed, first_of, first_read, place_of, kind_by, cell_number, is_placed, basis_of, run_place, meaning_of};
 
 use kinds::{Kind, Set, Stand};
+use value_sublists::Part;
+use value_sums::{Read, Refused};
 use work_frames::Frame;
 
 // What a field is evaluated in: the deck, the workspace, and the frame of the level that reads it.
@@ -198,31 +201,62 @@ pub fn first_of(subscripts: Subscripts) -> usize
     }
 }
 
-// What a parameter's reference takes of its value.
-fn of_parameter(s: &[u8], subscripts: Subscripts) -> Option<&[u8]>
-    ensures { (part_found result ≡ of_parameter s.now (listed subscripts)) × IfSome result (λ t. length t.now ≤ length s.now) }
+// The same of a reference that may have been read; 0 for a refusal.
+pub fn first_read(so_far: Result<Read<Subscripts>, Refused>) -> usize
+    ensures { result ≡ first_read so_far }
 {
-    match subscripts {
-        Subscripts::Bare => Some(s),
-        Subscripts::One(a) => value_sublists::entry_of(s, a),
-        Subscripts::Two(a, _) => value_sublists::entry_of(s, a),
+    match so_far {
+        Ok(read) => first_of(read.value),
+        Err(_) => 0,
     }
 }
 
-// What a reference to &SYSLIST takes of the operand that its first subscript names.
-fn of_list(s: &[u8], subscripts: Subscripts) -> Option<&[u8]>
-    ensures { ((all : List Bytes) → s.now ≡ get_or all (first_of subscripts) [] → part_found result ≡ of_list all (listed subscripts)) × IfSome result (λ t. length t.now ≤ length s.now) }
+// All of a text, as a part of it.
+fn whole(s: &[u8]) -> Part
+    ensures { part_in s.now (Some result) ≡ some s.now }
+{
+    Part {
+        at: 0,
+        size: s.len(),
+    }
+}
+
+// Where what a parameter's reference takes of its value stands.
+fn of_parameter(s: &[u8], subscripts: Subscripts) -> Option<Part>
+    ensures { part_in s.now result ≡ of_parameter s.now (listed subscripts) }
 {
     match subscripts {
-        Subscripts::Bare => Some(&[]),
-        Subscripts::One(a) => { if a < 0 { None } else { Some(s) } }
+        Subscripts::Bare => Some(whole(s)),
+        Subscripts::One(a) => value_sublists::entry_place(s, a),
+        Subscripts::Two(a, _) => value_sublists::entry_place(s, a),
+    }
+}
+
+// Where what a reference to &SYSLIST takes of the operand that its first subscript names stands.
+fn of_list(s: &[u8], subscripts: Subscripts) -> Option<Part>
+    ensures { (all : List Bytes) → s.now ≡ get_or all (first_of subscripts) [] → part_in s.now result ≡ of_list all (listed subscripts) }
+{
+    match subscripts {
+        Subscripts::Bare => Some(Part { at: 0, size: 0 }),
+        Subscripts::One(a) => { if a < 0 { None } else { Some(whole(s)) } }
         Subscripts::Two(a, b) => {
             if a < 0 {
                 None
             } else {
-                value_sublists::entry_of(s, b)
+                value_sublists::entry_place(s, b)
             }
         }
+    }
+}
+
+// Where what a reference takes of its basis stands.
+pub fn part_place(s: &[u8], kind: Kind, subscripts: Subscripts) -> Option<Part>
+    ensures { (c : Cell) → kind ≡ kind_for c.kind → is_placed c.kind ≡ true → s.now ≡ basis_of c (first_of subscripts) → part_in s.now result ≡ text_of (ref_to c (listed subscripts)) }
+{
+    match kind {
+        Kind::Parameter => of_parameter(s, subscripts),
+        Kind::List => of_list(s, subscripts),
+        Kind::Symbol(_) | Kind::Index | Kind::Section | Kind::Unknown => Some(whole(s)),
     }
 }
 
@@ -230,11 +264,8 @@ fn of_list(s: &[u8], subscripts: Subscripts) -> Option<&[u8]>
 pub fn part_of(s: &[u8], kind: Kind, subscripts: Subscripts) -> Option<&[u8]>
     ensures { ((c : Cell) → kind ≡ kind_for c.kind → is_placed c.kind ≡ true → s.now ≡ basis_of c (first_of subscripts) → part_found result ≡ text_of (ref_to c (listed subscripts))) × IfSome result (λ t. length t.now ≤ length s.now) }
 {
-    match kind {
-        Kind::Parameter => of_parameter(s, subscripts),
-        Kind::List => of_list(s, subscripts),
-        Kind::Symbol(_) | Kind::Index | Kind::Section | Kind::Unknown => Some(s),
-    }
+    let part = part_place(s, kind, subscripts)?;
+    Some(spans::part(s, part.at, part.size))
 }
 
 // What a reference takes of the text that its symbol stands for.

@@ -14,7 +14,7 @@ use mir.Syntax.{w32, w64}
 use mir.Val.{SFits, Fits}
 use mir.Facts.{Fits-nat_abs}
 use lib.ListN.{length, get_or, take, drop, drop_of_length-le, length-append, length-drop}
-use lib.Seq.{drop-cons, take-suc, get_or-drop, append_snoc, get_or-append_seam}
+use lib.Seq.{drop-cons, take-suc, take-length, get_or-drop, append_snoc, get_or-append_seam}
 use borrow.Author.Tests.{ltb-true, not-false, eqb-true, eqb-false, eq-eqb, ne_eqb}
 use Rattle.text.specs.Bytes.{Bytes, bytes}
 use Rattle.rules.specs.Choice.{choose, on_first}
@@ -31,7 +31,8 @@ use Rattle.std.specs.Prelude.{Option as Maybe}
 use Rattle.std.specs.Borrow.{Bor}
 use Rattle.value_sums.specs.Answers.{option_of}
 use Rattle.value_sublists.specs.declared.Entries.{Entries}
-use Rattle.value_sublists.specs.Entries.{edges, ended, passed_by, Entry, cut_of, cut_by}
+use Rattle.value_sublists.specs.declared.Part.{Part}
+use Rattle.value_sublists.specs.Entries.{edges, ended, passed_by, Entry, cut_in, cut_by, part_in}
 use Rattle.value_sublists.specs.Entries.{part_of as part_found}
 
 -- ---- one byte
@@ -189,13 +190,13 @@ pub record Scanning (l : Bytes) (n i : ℕ) (seen : State) (p : Passed) : Type 0
 abbrev pub closed_at : Bytes → Passed → Option Entry
 closed_at l q = some (record { count = q.count; wanted = part_of l q.at q.size })
 
-pub cut-none : cut_of None ≡ none
-unfolding cut_of
-cut-none = refl
+pub cut-none : (l : Bytes) → cut_in l None ≡ none
+unfolding cut_in
+cut-none l = refl
 
-pub cut-some : (l : Bytes) (p : Passed) (w : Bor Bytes) → w.now ≡ part_of l p.at p.size → cut_of (Some (record { count = p.count; wanted = w })) ≡ closed_at l p
-unfolding cut_of
-cut-some l p w e = ap (λ b. some (record { count = p.count; wanted = b })) e
+pub cut-some : (l : Bytes) (p : Passed) → cut_in l (Some (record { count = p.count; wanted = record { at = p.at; size = p.size } })) ≡ closed_at l p
+unfolding cut_in
+cut-some l p = refl
 
 pub part-within : (s : Bytes) (at n : ℕ) → length (part_of s at n) ≤ length s
 unfolding part_of
@@ -379,17 +380,17 @@ counted : (l : Bytes) (o : Option Entry) → (length l ≡ 0 → ⊥) → o ≡ 
 counted [] o n e = absurd (n refl)
 counted (c ∷ l) o n e = ap count_of e ∙ counted-by c l
 
-module _ (l : Bytes) (r : Maybe Entries) (h : cut_of r ≡ cut_by 0 (entries_of l)) (some_byte : length l ≡ 0 → ⊥) where
-  by_answer : count_of (cut_of r) ≡ number_of_entries l
-  by_answer = counted l (cut_of r) some_byte h
+module _ (l : Bytes) (r : Maybe Entries) (h : cut_in l r ≡ cut_by 0 (entries_of l)) (some_byte : length l ≡ 0 → ⊥) where
+  by_answer : count_of (cut_in l r) ≡ number_of_entries l
+  by_answer = counted l (cut_in l r) some_byte h
 
   pub count-entries : {e : Entries} → r ≡ Some e → e.count ≡ number_of_entries l
-  unfolding count_of cut_of
-  count-entries e = sym (ap (λ r. count_of (cut_of r)) e) ∙ by_answer
+  unfolding count_of cut_in
+  count-entries e = sym (ap (λ r. count_of (cut_in l r)) e) ∙ by_answer
 
   pub count-whole : r ≡ None → 1 ≡ number_of_entries l
-  unfolding count_of cut_of
-  count-whole e = sym (ap (λ r. count_of (cut_of r)) e) ∙ by_answer
+  unfolding count_of cut_in
+  count-whole e = sym (ap (λ r. count_of (cut_in l r)) e) ∙ by_answer
 
 -- the wanted entry; of an operand that is no sublist, the first is all of it
 wanted_of : Bytes → ℕ → Option Entry → Bytes
@@ -404,36 +405,40 @@ wanted_by l n = go (entries_of l)
     go none = refl
     go (some entries) = refl
 
-module _ (l : Bytes) (n : ℕ) (r : Maybe Entries) (h : cut_of r ≡ cut_by n (entries_of l)) where
-  pub entry-some : {e : Entries} → r ≡ Some e → part_found (Some e.wanted) ≡ entry l (pos (suc n))
-  unfolding part_found cut_of wanted_of
-  entry-some e = sym (ap (λ r. some (wanted_of l n (cut_of r))) e) ∙ ap (λ o. some (wanted_of l n o)) h ∙ wanted_by l n
+module _ (l : Bytes) (n : ℕ) (r : Maybe Entries) (h : cut_in l r ≡ cut_by n (entries_of l)) where
+  pub entry-some : {e : Entries} → r ≡ Some e → part_in l (Some e.wanted) ≡ entry l (pos (suc n))
+  unfolding part_in cut_in wanted_of
+  entry-some e = sym (ap (λ r. some (wanted_of l n (cut_in l r))) e) ∙ ap (λ o. some (wanted_of l n o)) h ∙ wanted_by l n
 
   none-cut : r ≡ None → some (get_or (l ∷ []) n []) ≡ entry l (pos (suc n))
-  unfolding cut_of wanted_of
-  none-cut e = sym (ap (λ r. some (wanted_of l n (cut_of r))) e) ∙ ap (λ o. some (wanted_of l n o)) h ∙ wanted_by l n
+  unfolding cut_in wanted_of
+  none-cut e = sym (ap (λ r. some (wanted_of l n (cut_in l r))) e) ∙ ap (λ o. some (wanted_of l n o)) h ∙ wanted_by l n
 
-  pub entry-all : r ≡ None → n ≡ 0 → some l ≡ entry l (pos (suc n))
-  entry-all e z = sym (ap (λ n. some (get_or (l ∷ []) n [])) z) ∙ none-cut e
+  pub entry-all : r ≡ None → n ≡ 0 → part_in l (Some (record { at = 0; size = length l })) ≡ entry l (pos (suc n))
+  unfolding part_in part_of
+  entry-all e z = ap some (take-length l ∙ sym (ap (λ n. get_or (l ∷ []) n []) z)) ∙ none-cut e
 
-  pub entry_past : r ≡ None → (n ≡ 0 → ⊥) → some [] ≡ entry l (pos (suc n))
+  pub entry_past : r ≡ None → (n ≡ 0 → ⊥) → part_in l (Some (record { at = 0; size = 0 })) ≡ entry l (pos (suc n))
+  unfolding part_in part_of
   entry_past e z = go n z ∙ none-cut e
     where
       go : (n : ℕ) → (n ≡ 0 → ⊥) → some [] ≡ some (get_or (l ∷ []) n [])
       go zero z = absurd (z refl)
       go (suc n) z = refl
 
-pub found-none : part_found None ≡ none
-unfolding part_found
-found-none = refl
+-- the bytes of the part that was found
+module _ (l : Bytes) {o : Maybe Part} {x : Option Bytes} (h : part_in l o ≡ x) where
+  pub found-none : o ≡ None → part_found None ≡ x
+  unfolding part_found part_in
+  found-none e = sym (ap (part_in l) e) ∙ h
 
-pub found-some : (w : Bor Bytes) → part_found (Some w) ≡ some w.now
-unfolding part_found
-found-some w = refl
+  pub found-some : {p : Part} (w : Bor Bytes) → o ≡ Some p → w.now ≡ part_of l p.at p.size → part_found (Some w) ≡ x
+  unfolding part_found part_in
+  found-some w e k = ap some k ∙ sym (ap (part_in l) e) ∙ h
 
 -- numbers of entries: below 1 there is none
-pub entry-none : (l : Bytes) (z : ℤ) → lt_z z (pos 1) ≡ true → none ≡ entry l z
-unfolding entry
+pub entry-none : (l : Bytes) (z : ℤ) → lt_z z (pos 1) ≡ true → part_in l None ≡ entry l z
+unfolding part_in entry
 entry-none l (pos zero) h = refl
 entry-none l (pos (suc n)) h = let less = ltb-true (suc n) 1 h in absurd (omega arith)
 entry-none l (negsuc n) h = refl

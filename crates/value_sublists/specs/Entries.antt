@@ -6,7 +6,9 @@ use Rattle.std.proofs.Math.Option.{Option, none, some}
 use Rattle.text.specs.Bytes.{Bytes}
 use Rattle.rules.specs.Choice.{choose}
 use Rattle.fields.specs.declared.Seen.{Seen as State}
+use Rattle.spans.specs.Spans.{part_of as bytes_at}
 use Rattle.value_sublists.specs.declared.Passed.{Passed}
+use Rattle.value_sublists.specs.declared.Part.{Part}
 use Rattle.value_sublists.specs.declared.Entries.{Entries}
 
 -- the byte c is b, outside quotes and inside one pair of parentheses
@@ -27,13 +29,18 @@ pub record Entry : Type 0 where
   pub count : ℕ
   pub wanted : Bytes
 
-unfoldable pub cut_of : Maybe Entries → Option Entry
-cut_of (Some e) = some (record { count = e.count; wanted = e.wanted.now })
-cut_of None = none
+unfoldable pub cut_in : Bytes → Maybe Entries → Option Entry
+cut_in s (Some e) = some (record { count = e.count; wanted = bytes_at s e.wanted.at e.wanted.size })
+cut_in s None = none
 
 unfoldable pub cut_by : ℕ → Option (List Bytes) → Option Entry
 cut_by n none = none
 cut_by n (some l) = some (record { count = length l; wanted = get_or l n [] })
+
+-- the part of a text that was found, if any was
+unfoldable pub part_in : Bytes → Maybe Part → Option Bytes
+part_in s (Some p) = some (bytes_at s p.at p.size)
+part_in s None = none
 
 -- the text that was found, if any was
 unfoldable pub part_of : Maybe (Bor Bytes) → Option Bytes

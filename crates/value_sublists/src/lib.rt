@@ -3,7 +3,7 @@
 
 ghost use Rattle.std.specs.Prelude.{◌≡◌, Bool, [], ◌∷◌, ℕ, ◌+◌, ◌-◌, ◌≤◌, ◌<◌, ◌^◌, length, IfSome};
 ghost use Rattle.rules.specs.Values.{type_of, entry, entries_of, number_of_entries};
-ghost use Rattle.value_sublists.specs.Entries.{edges, passed_by, cut_of, cut_by, part_of};
+ghost use Rattle.value_sublists.specs.Entries.{edges, passed_by, cut_in, cut_by, part_in, part_of};
 
 // Where a scan of a sublist stands: so many entries have ended, the next starts at `start`; the wanted one stands at `at` with its size, if it has ended.
 #[derive(Clone, Copy)]
@@ -14,11 +14,18 @@ struct Passed {
     size: usize,
 }
 
-// A sublist's entries: how many there are, and the one that was asked for.
+// A part of an operand, by its place and size.
 #[derive(Clone, Copy)]
-struct Entries<'a> {
+pub struct Part {
+    pub at: usize,
+    pub size: usize,
+}
+
+// A sublist's entries: how many there are, and where the one that was asked for stands.
+#[derive(Clone, Copy)]
+struct Entries {
     count: usize,
-    wanted: &'a [u8],
+    wanted: Part,
 }
 
 // Whether the byte `c` is `b`, outside quotes and inside one pair of parentheses.
@@ -52,9 +59,9 @@ fn past_entry(so_far: Passed, n: usize, i: usize, ends: bool) -> Passed
     }
 }
 
-// The entries of a sublist, and its entry `n`, the first being 0; nothing stands behind the last. None of an operand that is no sublist.
-fn entries_of(s: &[u8], n: usize) -> Option<Entries<'_>>
-    ensures { (cut_of result ≡ cut_by n (entries_of s.now)) × IfSome result (λ e. length e.wanted.now ≤ length s.now) }
+// The entries of a sublist, and where its entry `n` stands, the first being 0; nothing stands behind the last. None of an operand that is no sublist.
+fn entries_of(s: &[u8], n: usize) -> Option<Entries>
+    ensures { cut_in s.now result ≡ cut_by n (entries_of s.now) }
 {
     if lent::byte(s, 0) != b'(' {
         return None;
@@ -80,7 +87,10 @@ fn entries_of(s: &[u8], n: usize) -> Option<Entries<'_>>
             let last = past_entry(so_far, n, i, true);
             return Some(Entries {
                 count: last.count,
-                wanted: spans::part(s, last.at, last.size),
+                wanted: Part {
+                    at: last.at,
+                    size: last.size,
+                },
             });
         }
         let divides = is_edge(seen, c, b',');
@@ -104,9 +114,9 @@ pub fn entry_count(s: &[u8]) -> usize
     }
 }
 
-// Entry `n` of an operand, if `n` is not below 1: of one that is no sublist, entry 1 is all of it; an entry that does not stand there is empty.
-pub fn entry_of(s: &[u8], n: i32) -> Option<&[u8]>
-    ensures { (part_of result ≡ entry s.now n) × IfSome result (λ t. length t.now ≤ length s.now) }
+// Where entry `n` of an operand stands, if `n` is not below 1: of one that is no sublist, entry 1 is all of it; an entry that does not stand there is empty.
+pub fn entry_place(s: &[u8], n: i32) -> Option<Part>
+    ensures { part_in s.now result ≡ entry s.now n }
 {
     if n < 1 {
         return None;
@@ -114,9 +124,20 @@ pub fn entry_of(s: &[u8], n: i32) -> Option<&[u8]>
     let before = n as usize - 1;
     match entries_of(s, before) {
         Some(entries) => Some(entries.wanted),
-        None if before == 0 => Some(s),
-        None => Some(&[]),
+        None if before == 0 => Some(Part {
+            at: 0,
+            size: s.len(),
+        }),
+        None => Some(Part { at: 0, size: 0 }),
     }
+}
+
+// Entry `n` of an operand, as `entry_place` finds it.
+pub fn entry_of(s: &[u8], n: i32) -> Option<&[u8]>
+    ensures { (part_of result ≡ entry s.now n) × IfSome result (λ t. length t.now ≤ length s.now) }
+{
+    let part = entry_place(s, n)?;
+    Some(spans::part(s, part.at, part.size))
 }
 
 // An operand's type: O when empty, N when it is a number, else U.

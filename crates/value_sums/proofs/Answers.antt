@@ -20,6 +20,8 @@ use Rattle.rules.proofs.Choices.{by, chosen, passed_over}
 use Rattle.grammar.specs.Tokens.{lex_of, toks_at}
 use Rattle.std.specs.Prelude.{Result, Ok, Err, Some, None}
 use Rattle.std.specs.Prelude.{Option as Maybe}
+use Rattle.std.specs.Result.{IsErrAnd}
+use Rattle.std.proofs.lemmas.Result.{err_from_is_err_and}
 use Rattle.refusals.specs.Numbers.{number_of}
 use Rattle.refusals.specs.declared.Fault.TheVariants.{IllFormed, BadValue}
 use Rattle.value_sums.specs.Answers.{option_of, lex_by, toks_by, tells_as}
@@ -98,6 +100,10 @@ module _ {A B W : Type 0} (is : A → B) (from : ℕ → List (Lex Cell)) (k : B
   pub then-refused : {C : Type 0} (told : C → W) {e : Refused} → s ≡ Err e → tells_as told from (Err e) ≡ then (tells_as is from s) k
   unfolding then tells_as
   then-refused told e = sym (ap (λ s. then (tells_as is from s) k) e)
+
+  -- a refusal that goes on, by what the code has
+  pub then-stops : {C : Type 0} (told : C → W) {e : Refused} → s ≡ Err e → (r : Result (Read C) Refused) → IsErrAnd r (λ d. d ≡ e) → tells_as told from r ≡ then (tells_as is from s) k
+  then-stops told at r out = let p = err_from_is_err_and r out in ap (tells_as told from) (p.1 ∙ ap Err p.2) ∙ then-refused told at
 
 -- what was read, as something else
 abbrev as_got : {A B : Type 0} → (A → B) → Got A Cell → Got B Cell

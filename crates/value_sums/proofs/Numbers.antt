@@ -3,21 +3,17 @@ use Prim.Native.Nat.{ℕ, suc, ◌+◌, ◌*◌, ◌-◌, ◌≤◌, ◌<◌}
 use native.Mathlib.Omega.{arith}
 use native.Mathlib.Nat.{le_refl, lt_of_lt_of_le}
 use native.Mathlib.Numerals.{add-one}
-use mathlib.Core.Path.{◌≡◌, refl, ap, sym, ◌∙◌, subst}
-use mathlib.Core.Bool.{Bool, true, false, cond, not, ◌&&◌, ◌||◌, true≢false}
+use mathlib.Core.Path.{◌≡◌, refl, ap, sym, ◌∙◌}
+use mathlib.Core.Bool.{Bool, true, false, ◌&&◌, ◌||◌, true≢false}
 use mathlib.Core.List.{List, [], ◌∷◌, map}
-use mathlib.Core.Option.{Option, none, some}
+use mathlib.Core.Option.{none, some}
 use lib.Dec.{leb, eqb, ltb}
-use lib.ListN.{length, take, drop, get_or, drop_of_length-le, length-drop}
-use Rattle.std.proofs.lemmas.List.{length-take-le}
-use lib.Seq.{drop-cons, take-length}
+use lib.ListN.{length, take, drop, get_or, drop_of_length-le}
+use lib.Seq.{drop-cons}
 use lib.IntN.{ℤ, pos}
-use borrow.Author.Tests.{lt-ltb, le-ltb, le-leb, lt-leb, ltb-true, ltb-false}
-use mathlib.Core.Logic.{◌⊎◌, inl, inr}
-use Rattle.std.specs.Prelude.{Ok, Err, Some, None}
-use Rattle.std.specs.Prelude.{Option as Maybe}
-use Rattle.std.specs.Option.{unwrap_or}
-use Rattle.std.specs.List.{position_or_len, list_all}
+use borrow.Author.Tests.{lt-ltb, le-ltb, le-leb, lt-leb, ltb-false}
+use Rattle.std.specs.Prelude.{Ok, Err}
+use Rattle.std.specs.List.{list_all}
 use Rattle.text.specs.Bytes.{Bytes}
 use Rattle.text.specs.Characters.{digit, letter}
 use Rattle.rules.specs.Choice.{choose, run, every}
@@ -28,13 +24,26 @@ use Rattle.rules.specs.Evaluate.{Cell, values}
 use Rattle.rules.proofs.Choices.{by, chosen, passed_over, and_left, and_right}
 use Rattle.grammar.proofs.Numbers.{digit-bounds}
 use Rattle.refusals.specs.declared.Fault.TheVariants.{IllFormed}
-use Rattle.value_sums.specs.Answers.{option_of, lex_by, toks_by, tells_as, tells}
-use Rattle.value_sums.proofs.Answers.{toks-drop}
+use Rattle.value_sums.specs.Answers.{lex_by, toks_by, tells_as, tells}
+use Rattle.value_sums.proofs.Answers.{toks-drop, tells-broken, tells-read}
 
 spelt-grows : (n : ℕ) (s : Bytes) → n ≤ spelt n s
 unfolding spelt
 spelt-grows n [] = le_refl n
 spelt-grows n (c ∷ s) = let more = spelt-grows (n * 10 + (c - 48)) s in omega arith
+
+-- what the digits spell that stand first, after n for those before them
+abbrev first : ℕ → Bytes → ℕ
+first n s = spelt n (take (run digit s) s)
+
+-- the digits before place i stand first, and spell n
+pub record Counted (s : Bytes) (i n : ℕ) : Type 0 where
+  pub few : n ≤ 2147483647
+  pub runs : run digit s ≡ i + run digit (drop i s)
+  pub spells : first 0 s ≡ first n (drop i s)
+
+pub none-counted : (s : Bytes) → Counted s 0 0
+none-counted s = record { few = omega arith; runs = omega arith; spells = refl }
 
 -- what is left to spell from place i on
 module _ (s : Bytes) (i : ℕ) (inside : i < length s) where
@@ -55,20 +64,41 @@ module _ (s : Bytes) (i : ℕ) (inside : i < length s) where
   unfolding spelt
   spelt-on n = ap (spelt n) cut
 
+  -- ---- of a number in a field: the digits that stand first, so many before place i
+
+  runs-on : digit (get_or s i 0) ≡ true → run digit (drop i s) ≡ suc (run digit (drop (i + 1) s))
+  unfolding run
+  runs-on h = ap (run digit) cut ∙ chosen _ _ h
+
+  first-on : (n : ℕ) → digit (get_or s i 0) ≡ true → first n (drop i s) ≡ first (n * 10 + (get_or s i 0 - 48)) (drop (i + 1) s)
+  unfolding run spelt
+  first-on n h = ap (first n) cut ∙ ap (λ k. spelt n (take k (get_or s i 0 ∷ drop (i + 1) s))) (chosen _ _ h)
+
+  module _ {n d : ℕ} (so_far : Counted s i n) (is : digit (get_or s i 0) ≡ true) (e : d ≡ get_or s i 0 - 48) where
+    now-spells : first 0 s ≡ first (n * 10 + d) (drop (i + 1) s)
+    now-spells = so_far.spells ∙ first-on n is ∙ ap (λ d. first (n * 10 + d) (drop (i + 1) s)) (sym e)
+
+    pub counted-on : n * 10 + d ≤ 2147483647 → Counted s (i + 1) (n * 10 + d)
+    counted-on h = record {
+      few = h;
+      runs = let a = so_far.runs in let b = runs-on is in omega arith;
+      spells = now-spells;
+    }
+
+    pub counted-over : 2147483647 < n * 10 + d → 2147483647 < first 0 s
+    counted-over h = let more = spelt-grows (n * 10 + d) (take (run digit (drop (i + 1) s)) (drop (i + 1) s)) in let same = now-spells in omega arith
+
+  pub stops-digit : digit (get_or s i 0) ≡ false → run digit (drop i s) ≡ 0
+  unfolding run
+  stops-digit h = ap (run digit) cut ∙ passed_over _ _ h
+
+pub stops-end : (s : Bytes) (i : ℕ) → length s ≤ i → run digit (drop i s) ≡ 0
+unfolding run
+stops-end s i h = ap (run digit) (drop_of_length-le s h)
+
 pub spelt-over : (n : ℕ) (s : Bytes) → 2147483647 < n → within (pos (spelt n s)) ≡ none
 unfolding within choose
 spelt-over n s h = rw (lt-ltb 2147483647 (spelt n s) (lt_of_lt_of_le h (spelt-grows n s)))
-
-over-within : (n : ℕ) → ltb 2147483647 n ≡ true → within (pos n) ≡ none
-unfolding within choose
-over-within n h = rw h
-
-some-not : {z : ℤ} → some z ≡ none → ⊥
-some-not e = true≢false (ap (λ (o : Option ℤ). elim o [ none ↦ false | some z ↦ true ]) e)
-
-or_else : ℤ → Option ℤ → ℤ
-or_else y none = y
-or_else y (some z) = z
 
 few-within : (n : ℕ) → ltb 2147483647 n ≡ false → within (pos n) ≡ some (pos n)
 unfolding within choose
@@ -120,103 +150,46 @@ spelt-same held n (b ∷ l) = by (digit b)
     ∙ sym (ap (λ k. spelt n (take k (b ∷ l))) (chosen _ _ h)))
     (λ h. ap (λ k. spelt n (map byte_of (take k (lex_by held b ∷ map (lex_by held) l)))) (passed_over _ _ h) ∙ sym (ap (λ k. spelt n (take k (b ∷ l))) (passed_over _ _ h)))
 
-pub digits-first : (l : Bytes) → every digit (take (run digit l) l) ≡ true
-unfolding run every
-digits-first [] = refl
-digits-first (b ∷ l) = by (digit b)
-    (λ h. ap (λ k. every digit (take k (b ∷ l))) (chosen _ _ h) ∙ (λ i. h i && digits-first l i))
-    (λ h. ap (λ k. every digit (take k (b ∷ l))) (passed_over _ _ h))
+module _ (code : Bytes) (at : ℕ) (held : ℕ → Cell) (inner : List (Lex Cell) → Got ℤ Cell) where
+  abbrev size : ℕ
+  size = run digit (drop at code)
 
-pub position-run : (l : Bytes) → position_or_len (λ c. not (digit c)) l ≡ run digit l
-unfolding run choose
-position-run [] = refl
-position-run (b ∷ l) = at (digit b) (position-run l)
-  where
-    at : (t : Bool) {m n : ℕ} → m ≡ n → cond (not (not t)) (1 + m) 0 ≡ choose t (suc n) 0
-    at true e = omega arith
-    at false e = refl
-
-pub run-fits : (l : Bytes) → run digit l ≤ length l
-unfolding run choose
-run-fits [] = omega arith
-run-fits (b ∷ l) = at (digit b) (run-fits l)
-  where
-    at : (t : Bool) {m n : ℕ} → m ≤ n → choose t (suc m) 0 ≤ suc n
-    at true e = omega arith
-    at false e = omega arith
-
-pub run-inside : (code : Bytes) (at : ℕ) → (run digit (drop at code) ≡ 0) ⊎ (run digit (drop at code) + at ≤ length code)
-unfolding run
-run-inside code at = by (ltb at (length code))
-    (λ t. let in-code = ltb-true at (length code) t in let few = run-fits (drop at code) in let size = length-drop at code in inr (omega arith))
-    (λ t. inl (ap (run digit) (drop_of_length-le code (ltb-false at (length code) t))))
-
-pub position-is : (l : Bytes) {o : Maybe ℕ} {n : ℕ} → o ≡ cond (ltb (position_or_len (λ c. not (digit c)) l) (length l)) (Some (position_or_len (λ c. not (digit c)) l)) None
-    → n ≡ unwrap_or o (length l) → n ≡ run digit l
-position-is l {o} {n} e f = f ∙ ap (λ o. unwrap_or o (length l)) e ∙ by (ltb (position_or_len (λ c. not (digit c)) l) (length l))
-    (λ t. ap (λ b. unwrap_or (cond b (Some (position_or_len (λ c. not (digit c)) l)) None) (length l)) t ∙ position-run l)
-    (λ t. let far = ltb-false (position_or_len (λ c. not (digit c)) l) (length l) t in let same = position-run l in let few = run-fits l in
-    ap (λ b. unwrap_or (cond b (Some (position_or_len (λ c. not (digit c)) l)) None) (length l)) t ∙ omega arith)
-
-pub digits-are : (code : Bytes) (at : ℕ) {rest : Bytes} {n : ℕ} → rest ≡ drop at code → n ≡ run digit rest
-    → (take n rest ≡ take (run digit (drop at code)) (drop at code)) × (length (take n rest) ≡ run digit (drop at code))
-digits-are code at {rest} {n} e f =
-    let same : n ≡ run digit (drop at code) = f ∙ ap (run digit) e in
-    let first : take n rest ≡ take (run digit (drop at code)) (drop at code) = λ i. take (same i) (e i) in
-    (first, ap length first ∙ length-take-le _ _ (run-fits (drop at code)))
-
-pub all-behind : (code : Bytes) (at : ℕ) → take (length code - at) (drop at code) ≡ drop at code
-all-behind code at = ap (λ n. take n (drop at code)) (sym (length-drop at code)) ∙ take-length (drop at code)
-
-pub no-digits : (code : Bytes) (at : ℕ) → length code ≤ at → ([] ≡ take (run digit (drop at code)) (drop at code)) × (0 ≡ run digit (drop at code))
-unfolding run
-no-digits code at h = rw (drop_of_length-le code h) (refl, refl)
-
-pub taken-spelt : (code : Bytes) (at : ℕ) {s : Bytes} → s ≡ take (run digit (drop at code)) (drop at code) → length s ≡ run digit (drop at code)
-    → within (pos (spelt 0 s)) ≡ within (pos (spelt 0 (take (length s) (drop at code))))
-taken-spelt code at e n = ap (λ s. within (pos (spelt 0 s))) (e ∙ ap (λ k. take k (drop at code)) (sym n))
-
-module _ (code : Bytes) (at n : ℕ) (size : n ≡ run digit (drop at code)) where
   abbrev value : ℕ
-  value = spelt 0 (take n (drop at code))
+  value = first 0 (drop at code)
 
-  module _ (held : ℕ → Cell) (inner : List (Lex Cell) → Got ℤ Cell) where
-    decimal-by : decimal_number values inner (toks_by held code at)
-        ≡ choose (ltb 2147483647 value || letter (plain (toks_by held code (at + n)))) (broken (toks_by held code at)) (got (pos value) (toks_by held code (at + n)))
-    unfolding decimal_number values toks_by
-    decimal-by =
-        let l = drop at code in
-        let runs : run (λ y. digit (byte_of y)) (map (lex_by held) l) ≡ n = digits-same held l ∙ sym size in
-        let spells : spelt 0 (map byte_of (take n (map (lex_by held) l))) ≡ value = subst (λ k. spelt 0 (map byte_of (take k (map (lex_by held) l))) ≡ spelt 0 (take k l)) (sym size) (spelt-same held 0 l) in
-        ap (λ k. choose (ltb 2147483647 (spelt 0 (map byte_of (take k (map (lex_by held) l)))) || letter (plain (drop k (map (lex_by held) l)))) (broken (map (lex_by held) l)) (got (pos (spelt 0 (map byte_of (take k (map (lex_by held) l))))) (drop k (map (lex_by held) l)))) runs
-        ∙ ap (λ v. choose (ltb 2147483647 v || letter (plain (drop n (map (lex_by held) l)))) (broken (map (lex_by held) l)) (got (pos v) (drop n (map (lex_by held) l)))) spells
-        ∙ ap (λ x. choose (ltb 2147483647 value || letter (plain x)) (broken (map (lex_by held) l)) (got (pos value) x)) (toks-drop held code at n)
+  decimal-by : decimal_number values inner (toks_by held code at)
+      ≡ choose (ltb 2147483647 value || letter (plain (toks_by held code (at + size)))) (broken (toks_by held code at)) (got (pos value) (toks_by held code (at + size)))
+  unfolding decimal_number values toks_by
+  decimal-by =
+      let l = drop at code in
+      ap (λ k. choose (ltb 2147483647 (spelt 0 (map byte_of (take k (map (lex_by held) l)))) || letter (plain (drop k (map (lex_by held) l)))) (broken (map (lex_by held) l)) (got (pos (spelt 0 (map byte_of (take k (map (lex_by held) l))))) (drop k (map (lex_by held) l)))) (digits-same held l)
+      ∙ ap (λ v. choose (ltb 2147483647 v || letter (plain (drop size (map (lex_by held) l)))) (broken (map (lex_by held) l)) (got (pos v) (drop size (map (lex_by held) l)))) (spelt-same held 0 l)
+      ∙ ap (λ x. choose (ltb 2147483647 value || letter (plain x)) (broken (map (lex_by held) l)) (got (pos value) x)) (toks-drop held code at size)
 
-    pub decimal-reads : {w : Maybe ℤ} {z : ℤ} {c : ℕ} → option_of w ≡ within (pos value) → w ≡ Some z → c ≡ plain (toks_by held code (at + n)) → letter c ≡ false
-        → tells (toks_by held code) (Ok (record { value = z; next = at + n })) ≡ decimal_number values inner (toks_by held code at)
-    unfolding tells_as option_of choose or_else
-    decimal-reads {w} {z} e i read h =
-        let found : some z ≡ within (pos value) = sym (ap option_of i) ∙ e in
-        let few : ltb 2147483647 value ≡ false = by (ltb 2147483647 value) (λ t. absurd (some-not (found ∙ over-within value t))) (λ t. t) in
-        let same : z ≡ pos value = ap (or_else z) (found ∙ few-within value few) in
-        ap (λ z. got z (toks_by held code (at + n))) same ∙ sym (decimal-by ∙ rw (few, sym (ap letter read) ∙ h))
-
-    pub decimal-letter : {c : ℕ} → c ≡ plain (toks_by held code (at + n)) → letter c ≡ true
-        → tells (toks_by held code) (Err (record { fault = IllFormed; at = at })) ≡ decimal_number values inner (toks_by held code at)
+  module _ {s : Bytes} (items : s ≡ drop at code) where
+    pub decimal-over : 2147483647 < first 0 s → tells (toks_by held code) (Err (record { fault = IllFormed; at = at })) ≡ decimal_number values inner (toks_by held code at)
     unfolding tells_as choose broken
-    decimal-letter read h = sym (decimal-by ∙ either-way (ltb 2147483647 value) (sym (ap letter read) ∙ h))
-      where
-        either-way : (t : Bool) {u : Bool} → u ≡ true → choose (t || u) (broken (toks_by held code at)) (got (pos value) (toks_by held code (at + n))) ≡ broken (toks_by held code at)
-        either-way true e = refl
-        either-way false e = rw e
+    decimal-over h = sym (decimal-by ∙ rw (← items, lt-ltb 2147483647 (first 0 s) h))
 
-    pub decimal-over : {w : Maybe ℤ} → option_of w ≡ within (pos value) → w ≡ None
-        → tells (toks_by held code) (Err (record { fault = IllFormed; at = at })) ≡ decimal_number values inner (toks_by held code at)
-    unfolding tells_as option_of choose broken
-    decimal-over {w} e i =
-        let none-found : none ≡ within (pos value) = sym (ap option_of i) ∙ e in
-        let over : ltb 2147483647 value ≡ true = by (ltb 2147483647 value) (λ t. t) (λ t. absurd (some-not (sym (few-within value t) ∙ sym none-found))) in
-        sym (decimal-by ∙ rw over)
+    module _ {i n next c : ℕ} (so_far : Counted s i n) (here : next ≡ at + i) (ends : run digit (drop i s) ≡ 0) (read : c ≡ plain (toks_by held code next)) where
+      ended_at : at + size ≡ next
+      ended_at = let a = ap (run digit) items in let b = so_far.runs in omega arith
+
+      spells : value ≡ n
+      unfolding spelt
+      spells = ap (first 0) (sym items) ∙ so_far.spells ∙ ap (λ k. spelt n (take k (drop i s))) ends
+
+      ended-by : decimal_number values inner (toks_by held code at) ≡ choose (letter c) (broken (toks_by held code at)) (got (pos n) (toks_by held code next))
+      unfolding choose
+      ended-by = decimal-by
+          ∙ (λ j. choose (ltb 2147483647 (spells j) || letter (plain (toks_by held code (ended_at j)))) (broken (toks_by held code at)) (got (pos (spells j)) (toks_by held code (ended_at j))))
+          ∙ (λ j. choose (le-ltb 2147483647 n so_far.few j || letter (sym read j)) (broken (toks_by held code at)) (got (pos n) (toks_by held code next)))
+
+      pub decimal-letter : letter c ≡ true → tells (toks_by held code) (Err (record { fault = IllFormed; at = at })) ≡ decimal_number values inner (toks_by held code at)
+      decimal-letter h = tells-broken _ _ _ ∙ sym (ended-by ∙ chosen _ _ h)
+
+      pub decimal-reads : letter c ≡ false → tells (toks_by held code) (Ok (record { value = pos n; next = next })) ≡ decimal_number values inner (toks_by held code at)
+      decimal-reads h = tells-read _ _ _ _ ∙ sym (ended-by ∙ passed_over _ _ h)
 
 -- ---- a value that is a number
 

@@ -9,7 +9,7 @@ ghost use Rattle.text.specs.Characters.{digit};
 ghost use Rattle.rules.specs.Choice.{run, every};
 ghost use Rattle.rules.specs.Lexemes.{Lex};
 ghost use Rattle.rules.specs.Evaluate.{Cell, values};
-ghost use Rattle.rules.specs.Grammar.{Got, plain, given, decimal_number};
+ghost use Rattle.rules.specs.Grammar.{Got, plain, then, given, decimal_number};
 ghost use Rattle.rules.specs.Grammar.{closed as closed_by};
 ghost use Rattle.value_sums.specs.Answers.{option_of, toks_by, tells_as, tells};
 
@@ -72,6 +72,19 @@ pub fn joined(code: &[u8], left: Read<i32>, right: Read<i32>) -> Result<Read<i32
     )
 }
 
+// The operation whose sign stands at `here`, on the value before it and what was read behind it.
+pub fn joined_so(
+    sign: u8,
+    a: i32,
+    here: usize,
+    right: Result<Read<i32>, Refused>,
+) -> Result<Read<i32>, Refused>
+    ensures { (from : ℕ → List (Lex Cell)) → tells from result ≡ then (tells from right) (λ b y. given (operate_by sign a b) (from here) y) }
+{
+    let right = right?;
+    placed(operate(sign, a, right.value), here, right.next)
+}
+
 // What was read, and the parenthesis that closes.
 pub fn closed<T: Copy>(code: &[u8], read: Read<T>) -> Result<Read<T>, Refused>
     ensures { (held : ℕ → Cell) → tells_as (λ v. v) (toks_by held code.now) result ≡ closed_by read.value (toks_by held code.now read.next) }
@@ -90,6 +103,13 @@ pub fn closed<T: Copy>(code: &[u8], read: Read<T>) -> Result<Read<T>, Refused>
     }
 }
 
+// What may have been read, and the parenthesis that closes.
+pub fn closed_so<T: Copy>(code: &[u8], so_far: Result<Read<T>, Refused>) -> Result<Read<T>, Refused>
+    ensures { (held : ℕ → Cell) → tells_as (λ v. v) (toks_by held code.now) result ≡ then (tells_as (λ v. v) (toks_by held code.now) so_far) closed_by }
+{
+    closed(code, so_far?)
+}
+
 // The number that digits spell, if it is in range.
 fn spelt(digits: &[u8]) -> Option<i32>
     requires { every digit digits.now ≡ true }
@@ -105,33 +125,33 @@ fn spelt(digits: &[u8]) -> Option<i32>
     Some(number as i32)
 }
 
-// The digits that stand first behind place `at`.
-fn digits_at(code: &[u8], at: usize) -> &[u8]
-    ensures { (result.now ≡ take (run digit (drop at code.now)) (drop at code.now)) × (length result.now ≡ run digit (drop at code.now)) }
-{
-    let Some(rest) = code.get(at..) else {
-        return &[];
-    };
-    let size = rest
-        .iter()
-        .position(|&c| !chars::digit(c))
-        .unwrap_or(rest.len());
-    &rest[..size]
-}
-
-// A decimal number.
+// A decimal number. No digit is read behind the one with which it is out of range.
 pub fn decimal(code: &[u8], at: usize) -> Result<Read<i32>, Refused>
     ensures { (held : ℕ → Cell) (inner : List (Lex Cell) → Got ℤ Cell) → tells (toks_by held code.now) result ≡ decimal_number values inner (toks_by held code.now at) }
 {
-    let digits = digits_at(code, at);
-    let next = at + digits.len();
-    match spelt(digits) {
-        Some(value) if !chars::letter(grammar::text_at(code, next)) => Ok(Read { value, next }),
-        _ => Err(Refused {
-            fault: Fault::IllFormed,
-            at,
-        }),
+    let broken = Refused {
+        fault: Fault::IllFormed,
+        at,
+    };
+    let mut number: u64 = 0;
+    let mut next = at;
+    for &c in lent::behind(code, at) {
+        if !chars::digit(c) {
+            break;
+        }
+        number = number * 10 + u64::from(c - b'0');
+        if number > 2147483647 {
+            return Err(broken);
+        }
+        next += 1;
     }
+    if chars::letter(grammar::text_at(code, next)) {
+        return Err(broken);
+    }
+    Ok(Read {
+        value: number as i32,
+        next,
+    })
 }
 
 // The number that a value is: 1 to 10 digits, within range.

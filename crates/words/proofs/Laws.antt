@@ -1,5 +1,5 @@
--- What stands before a row's first blank; the rows are the sixteen words, each beside its place; and `word-is`, what the number of a word says. Assumes nothing.
-use Prim.Native.Nat.{ℕ, zero, suc, ◌+◌, ◌≤◌, ◌<◌}
+-- A row against an operation, byte by byte; the rows are the sixteen words, each beside its place; and `word-is`, what the number of a word says. Assumes nothing.
+use Prim.Native.Nat.{ℕ, zero, suc, ◌+◌, ◌≤◌, ◌<◌, suc-le-suc}
 use native.Mathlib.Nat.{le_of_suc-le-suc, not-suc-le-zero}
 use native.Mathlib.Numerals.{add-one}
 use native.Mathlib.Omega.{arith}
@@ -7,14 +7,11 @@ use mathlib.Core.Path.{◌≡◌, refl, ap, sym, ◌∙◌}
 use mathlib.Core.Bool.{Bool, true, false, cond, not}
 use mathlib.Core.List.{List, [], ◌∷◌}
 use lib.Dec.{eqb, ltb}
-use borrow.Author.Tests.{ltb-false}
-use lib.ListN.{length, get_or, take, drop, drop_of_length-le}
+use borrow.Author.Tests.{eq-eqb, ne_eqb}
+use lib.ListN.{length, get_or, drop, drop_of_length-le}
 use lib.Seq.{drop-cons}
 use Rattle.std.specs.Prelude.{Option, Some, None}
-use Rattle.std.specs.Option.{unwrap_or, is_some}
-use Rattle.std.specs.List.{position_or_len}
-use Rattle.std.specs.Cmp.Lexicographic.{pointwise}
-use Rattle.std.proofs.lemmas.List.Sums.{prefix_len-le-length}
+use Rattle.std.specs.Option.{is_some}
 use Rattle.text.specs.Bytes.{Bytes, bytes, same}
 use Rattle.text.specs.Words.{place_among, words, word_number}
 use Rattle.text.proofs.Same.{same-is}
@@ -26,36 +23,40 @@ use Rattle.kinds.specs.declared.Word.TheVariants.{Macro, Mend, Mexit, Lcl, Gbl, 
 use Rattle.words.specs.Trimmed.{trimmed}
 use Rattle.words.specs.Places.{place_of}
 
--- ---- a row
+-- ---- a row and an operation, byte by byte
 
-cut : (b : Bool) (c : ℕ) (s t : Bytes) (n : ℕ) → t ≡ take n s → cond b [] (c ∷ t) ≡ take (cond (not b) (1 + n) 0) (c ∷ s)
-cut true c s t n h = refl
-cut false c s t n h = let e : suc n ≡ 1 + n = omega arith in ap (λ x. c ∷ x) h ∙ ap (λ m. take m (c ∷ s)) e
+trim : (b : Bool) (c : ℕ) (s t : Bytes) → length t ≤ length s → length (cond b [] (c ∷ t)) ≤ suc (length s)
+trim true c s t h = omega arith
+trim false c s t h = suc-le-suc h
 
-trimmed-taken : (s : Bytes) → trimmed s ≡ take (position_or_len (λ b. eqb b 32) s) s
-trimmed-taken [] = refl
-trimmed-taken (c ∷ s) = cut (eqb c 32) c s (trimmed s) (position_or_len (λ b. eqb b 32) s) (trimmed-taken s)
+pub trimmed-length : (s : Bytes) → length (trimmed s) ≤ length s
+trimmed-length [] = omega arith
+trimmed-length (c ∷ s) = trim (eqb c 32) c s (trimmed s) (trimmed-length s)
 
-first_or : (n m : ℕ) → n ≤ m → unwrap_or (cond (ltb n m) (Some n) None) m ≡ n
-first_or n m h = by (ltb n m) refl
-  where
-    by : (b : Bool) → ltb n m ≡ b → unwrap_or (cond b (Some n) None) m ≡ n
-    by true e = refl
-    by false e = omega (arith, ltb-false n m e)
+ended : (b : Bool) (c : ℕ) (s : Bytes) → same (cond b [] (c ∷ s)) [] ≡ b
+ended true c s = refl
+ended false c s = refl
 
--- what stands before the first blank of a row of eight bytes
-pub before-blank : (row : Bytes) (found : Option ℕ) (size : ℕ) → length row ≡ 8
-    → found ≡ cond (ltb (position_or_len (λ b. eqb b 32) row) (length row)) (Some (position_or_len (λ b. eqb b 32) row)) None
-    → size ≡ unwrap_or found 8 → take size row ≡ trimmed row
-before-blank row found size long e s =
-    let n = position_or_len (λ b. eqb b 32) row in
-    ap (λ k. take k row) (s ∙ ap (λ o. unwrap_or o 8) e ∙ ap (λ m. unwrap_or (cond (ltb n (length row)) (Some n) None) m) (sym long) ∙ first_or n (length row) (prefix_len-le-length (λ b. not (eqb b 32)) row)) ∙ sym (trimmed-taken row)
+-- the row and the operation, both read from place i on
+module _ (row op : Bytes) (i : ℕ) where
+  abbrev pub rest : Bool
+  rest = same (trimmed (drop i row)) (drop i op)
 
-pub same-pointwise : (s t : Bytes) → pointwise eqb s t ≡ same s t
-same-pointwise [] [] = refl
-same-pointwise [] (d ∷ t) = refl
-same-pointwise (c ∷ s) [] = refl
-same-pointwise (c ∷ s) (d ∷ t) = rw (same-pointwise s t) refl
+  module _ (hr : i < length row) (ho : i < length op) where
+    pub blank : get_or row i 0 ≡ 32 → rest ≡ false
+    blank e = rw (drop-cons row i 0, drop-cons op i 0) (simp (eq-eqb _ _ e))
+
+    pub differs : (get_or row i 0 ≡ 32 → ⊥) → (get_or row i 0 ≡ get_or op i 0 → ⊥) → rest ≡ false
+    differs n d = rw (drop-cons row i 0, drop-cons op i 0) (simp (ne_eqb _ _ n, ne_eqb _ _ d))
+
+    pub agrees : (get_or row i 0 ≡ 32 → ⊥) → get_or row i 0 ≡ get_or op i 0 → rest ≡ same (trimmed (drop (i + 1) row)) (drop (i + 1) op)
+    agrees n e = rw (add-one, drop-cons row i 0, drop-cons op i 0) (simp (ne_eqb _ _ n, eq-eqb _ _ e))
+
+  pub at-end : i < length row → length op ≤ i → rest ≡ eqb (get_or row i 0) 32
+  at-end hr ho = rw (drop-cons row i 0, drop_of_length-le op ho) (ended (eqb (get_or row i 0) 32) (get_or row i 0) (trimmed (drop (suc i) row)))
+
+  pub both_end : length row ≤ i → length op ≤ i → rest ≡ true
+  both_end hr ho = rw (drop_of_length-le row hr, drop_of_length-le op ho)
 
 -- ---- the sixteen rows
 
@@ -116,6 +117,13 @@ by-place (Some Ago) = refl
 by-place (Some Anop) = refl
 by-place (Some Actr) = refl
 by-place None = refl
+
+-- the word of each row, and none behind the last
+pub by-row : (k : ℕ) (d : Bytes × Word) → k < 16 → statement_by (Some (get_or rows k d).1) ≡ get_or statements k model
+unfolding words
+by-row k d h =
+    let place : place_of (Some (get_or rows k d).1) ≡ k = omega (arith, (placed-at rows words 0 k d all_placed h h).1) in
+    by-place (Some (get_or rows k d).1) ∙ ap (λ n. get_or statements n model) place
 
 -- a word whose place is the operation's number is the word of its statement
 pub by-number : (w : Option Word) (op : Bytes) → place_of w ≡ word_number op → statement_by w ≡ statement_of op

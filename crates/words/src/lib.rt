@@ -1,10 +1,10 @@
 // Which of the sixteen language words of document 01, "Definitions", an operation is.
 #![tactic(auto)]
 
-ghost use Rattle.std.specs.Prelude.{◌≡◌};
+ghost use Rattle.std.specs.Prelude.{◌≡◌, get_or};
 ghost use Rattle.text.specs.Bytes.{same};
 ghost use Rattle.text.specs.Words.{word_number};
-ghost use Rattle.rules.specs.Statement.{statement_of};
+ghost use Rattle.rules.specs.Statement.{statement_of, statements, model};
 ghost use Rattle.kinds.specs.Kinds.{statement_by};
 ghost use Rattle.words.specs.Trimmed.{trimmed};
 ghost use Rattle.words.specs.Places.{place_of};
@@ -35,8 +35,21 @@ const WORDS: [([u8; 8], Word); 16] = [
 fn spells(row: [u8; 8], op: &[u8]) -> bool
     ensures { result ≡ same (trimmed row) op.now }
 {
-    let size = row.iter().position(|&b| b == b' ').unwrap_or(8);
-    &row[..size] == op
+    if 8 < op.len() {
+        return false;
+    }
+    for (i, &c) in op.iter().enumerate() {
+        if row[i] == b' ' {
+            return false;
+        }
+        if row[i] != c {
+            return false;
+        }
+    }
+    if op.len() == 8 {
+        return true;
+    }
+    row[op.len()] == b' '
 }
 
 // The language word that `op` is, where it is one.
@@ -44,10 +57,20 @@ pub fn word(op: &[u8]) -> Option<Word>
     ensures number { place_of result ≡ word_number op.now }
     ensures statement { statement_by result ≡ statement_of op.now }
 {
-    for (row, word) in WORDS {
+    for &(row, word) in &WORDS {
         if spells(row, op) {
             return Some(word);
         }
     }
     None
+}
+
+// The language word with this number, counted from 0; none behind the last.
+pub fn numbered(number: usize) -> Option<Word>
+    ensures { statement_by result ≡ get_or statements number model }
+{
+    if 16 <= number {
+        return None;
+    }
+    Some(WORDS[number].1)
 }

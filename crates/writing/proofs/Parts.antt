@@ -2,16 +2,18 @@
 use Prim.Native.Nat.{ℕ, suc, ◌+◌, ◌-◌, ◌≤◌}
 use native.Mathlib.Omega.{arith}
 use mathlib.Core.Path.{◌≡◌, refl, ap, sym, ◌∙◌}
-use mathlib.Core.List.{[], ◌∷◌}
+use mathlib.Core.List.{[], ◌∷◌, ◌++◌}
 use mathlib.Core.Logic.{◌⊎◌, inl, inr}
 use lib.ListN.{length, take, drop, set, length-take, length-drop}
+use borrow.Author.Tests.{le-ltb, ne_eqb}
 use Rattle.text.specs.Bytes.{Bytes}
+use Rattle.rules.proofs.Choices.{passed_over}
 use Rattle.kinds.specs.declared.Does.{Does}
 use Rattle.kinds.specs.declared.Does.TheVariants.{Passes, Ends, Exits}
 use Rattle.lent.specs.Splice.{splice}
 use Rattle.lent.proofs.Writes.{splice-cons}
 use Rattle.shapes.specs.Shapes.{part}
-use Rattle.writing.specs.Bytes.{does_code, behind_first, line_bytes}
+use Rattle.writing.specs.Bytes.{counted, does_code, behind_first, line_bytes, line_bytes_by}
 
 -- parts are no longer than the whole
 pub front-short : (k : ℕ) (s : Bytes) → length (take k s) ≤ length s
@@ -36,6 +38,15 @@ unfolding behind_first
 bare line target name operation operand (inl is) = behind line target name operation operand is
 bare line target name operation operand (inr (inl is)) = behind line target name operation operand is
 bare line target name operation operand (inr (inr is)) = behind line target name operation operand is
+
+-- from 8 on a number starts the bytes of a SET line
+pub sets-numbered : (number : ℕ) (line : Bytes) (target : ℕ) (name operation operand : Bytes) → 8 ≤ number → line_bytes_by number line target name operation operand ≡ number ∷ (counted name ++ counted operand)
+unfolding line_bytes_by
+sets-numbered number line target name operation operand h =
+    passed_over _ _ (le-ltb number 3 (omega (arith, h)))
+    ∙ (passed_over _ _ (ne_eqb number 3 (λ e. omega (arith, e, h)))
+    ∙ (passed_over _ _ (ne_eqb number 4 (λ e. omega (arith, e, h)))
+    ∙ (passed_over _ _ (ne_eqb number 5 (λ e. omega (arith, e, h))) ∙ (passed_over _ _ (ne_eqb number 6 (λ e. omega (arith, e, h))) ∙ passed_over _ _ (ne_eqb number 7 (λ e. omega (arith, e, h)))))))
 
 -- a byte, and the others behind it
 module _ (bytes s : Bytes) (does : ℕ) (is : bytes ≡ does ∷ s) where

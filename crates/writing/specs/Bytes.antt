@@ -1,7 +1,8 @@
 -- A body line's bytes in a deck, by what the line does and the codes that it keeps. That they are the deck's coding of the line is proofs/Lines.antt.
 -- Assumes nothing.
-use Rattle.std.specs.Prelude.{ℕ, ◌+◌, ◌-◌, ◌≤◌, ◌<◌, Bool, [], ◌∷◌, ◌++◌, map, length, take}
+use Rattle.std.specs.Prelude.{ℕ, ◌+◌, ◌-◌, ◌≤◌, ◌<◌, Bool, [], ◌∷◌, ◌++◌, map, eqb, ltb, length, take}
 use Rattle.text.specs.Bytes.{Bytes}
+use Rattle.rules.specs.Choice.{choose}
 use Rattle.rules.specs.Statement.{Does as Doing, passes, ends, exits, text, models, sets, branches_if, branches, counts}
 use Rattle.kinds.specs.Kinds.{set_of}
 use Rattle.kinds.specs.declared.Does.{Does}
@@ -57,6 +58,31 @@ pub record Writable (line : Bytes) (k : Kept) (s : Bytes) (target : ℕ) (out : 
   pub line-counts : length line < 65536
   pub target-counts : target < 65536
   pub room : at + length (shape_bytes line k s target) ≤ length out
+
+-- the bytes of a line by the number in which they start, whatever number it is: where it stands for no line, those of a SET line
+unfoldable pub line_bytes_by : ℕ → Bytes → ℕ → Bytes → Bytes → Bytes → Bytes
+line_bytes_by does line target name operation operand =
+    choose (ltb does text_code) (does ∷ [])
+    (choose (eqb does text_code) (does ∷ counted line)
+    (choose (eqb does models_code) (does ∷ (counted name ++ (counted operation ++ counted operand)))
+    (choose (eqb does branches_if_code) (does ∷ (two.put target ++ counted operand))
+    (choose (eqb does branches_code) (does ∷ two.put target)
+    (choose (eqb does counts_code) (does ∷ counted operand) (does ∷ (counted name ++ counted operand)))))))
+
+-- those by this number and the places of a shape over codes
+abbrev pub numbered_bytes : ℕ → Bytes → Kept → Bytes → ℕ → Bytes
+numbered_bytes number line k s target =
+    line_bytes_by number line target (take k.name s) (part s k.operation k.gap) (part s k.operand k.rest)
+
+-- the shape is one over these codes, every count has two bytes, and the bytes of the line by this number have room
+pub record WritableBy (number : ℕ) (line : Bytes) (k : Kept) (s : Bytes) (target : ℕ) (out : Bytes) (at : ℕ) : Type 0 where
+  pub name-in : k.name ≤ length s
+  pub operation-in : (k.operation ≤ k.gap) × (k.gap ≤ length s)
+  pub operand_in : (k.operand ≤ k.rest) × (k.rest ≤ length s)
+  pub codes-count : length s < 65536
+  pub line-counts : length line < 65536
+  pub target-counts : target < 65536
+  pub room : at + length (numbered_bytes number line k s target) ≤ length out
 
 -- the number of a branch target; 0 where there is none
 unfoldable pub target_of : Doing ℕ → ℕ

@@ -1,7 +1,8 @@
 // A body line's bytes in a deck, and what stands before a macro's lines: its name, its flag, counts and kinds.
 #![tactic(auto)]
 
-ghost use Rattle.std.specs.Prelude.{◌≡◌, Bool, List, ◌++◌, map, ◌+◌, ◌-◌, ◌≤◌, ◌<◌, length, take};
+ghost use Rattle.std.specs.Prelude.{◌≡◌, ℕ, Bool, List, ◌∷◌, ◌++◌, map, ◌+◌, ◌-◌, ◌≤◌, ◌<◌, length, take};
+ghost use Rattle.text.specs.Bytes.{Bytes};
 ghost use Rattle.rules.specs.Statement.{Set as Of};
 ghost use Rattle.rules.specs.Grammar.{symbol};
 ghost use Rattle.grammar.specs.Kinds.{number_of};
@@ -9,7 +10,7 @@ ghost use Rattle.deck.specs.Coding.{two, list_of};
 ghost use Rattle.deck.specs.Coders.{kind, flag_code, string, flag};
 ghost use Rattle.lent.specs.Splice.{splice};
 ghost use Rattle.shapes.specs.Shapes.{part};
-ghost use Rattle.writing.specs.Bytes.{counted, does_code, behind_first, shape_bytes, Writable, lessened, title_bytes};
+ghost use Rattle.writing.specs.Bytes.{counted, does_code, behind_first, shape_bytes, Writable, line_bytes_by, numbered_bytes, WritableBy, lessened, title_bytes};
 
 use kinds::{Does, Set};
 
@@ -149,6 +150,55 @@ pub fn put_line(
     let rest = shape.rest;
     let operand = &code[behind..rest];
     out[at] = does_code(does);
+    put_behind(does, line, target, name, operation, operand, out, at + 1)
+}
+
+// What a line does whose bytes start in this number; where it stands for no line, the bytes behind it are a SET line's.
+#[tactic(auto, unfolding(crate::specs::Bytes::line_bytes_by, crate::specs::Bytes::behind_first, rules::specs::Choice::choose))]
+fn does_of(number: u8) -> Does
+    ensures { (line : Bytes) → (target : ℕ) → (name : Bytes) → (operation : Bytes) → (operand : Bytes) → line_bytes_by number line target name operation operand ≡ number ∷ behind_first result line target name operation operand }
+{
+    match number {
+        0 => Does::Passes,
+        1 => Does::Ends,
+        2 => Does::Exits,
+        3 => Does::Text,
+        4 => Does::Models,
+        5 => Does::BranchesIf,
+        6 => Does::Branches,
+        7 => Does::Counts,
+        8 => Does::Sets(Set::A),
+        9 => Does::Sets(Set::B),
+        10 => Does::Sets(Set::C),
+        _ => Does::Sets(Set::A),
+    }
+}
+
+// A line's bytes by the number in which they start, whatever number it is, written from `at` on; answers where they end.
+// Of the shape only the places count.
+pub fn put_numbered(
+    number: u8,
+    line: &[u8],
+    shape: shapes::Shape,
+    code: &[u8],
+    target: usize,
+    out: &mut [u8],
+    at: usize,
+) -> usize
+    requires { WritableBy number line.now shape code.now target out.old at }
+    ensures value { result ≡ at + length (numbered_bytes number line.now shape code.now target) }
+    ensures out_after { out.new ≡ splice out.old at (numbered_bytes number line.now shape code.now target) }
+{
+    let does = does_of(number);
+    let end = shape.name;
+    let name = &code[..end];
+    let start = shape.operation;
+    let gap = shape.gap;
+    let operation = &code[start..gap];
+    let behind = shape.operand;
+    let rest = shape.rest;
+    let operand = &code[behind..rest];
+    out[at] = number;
     put_behind(does, line, target, name, operation, operand, out, at + 1)
 }
 

@@ -1,16 +1,8 @@
-use mathlib.Core.Path.{ap, ◌∙◌}
-use native.Mathlib.Nat.{le_refl}
-use Rattle.kinds.specs.Kinds.{kind_for}
-use Rattle.value_references.specs.Referring.{listed}
-use Rattle.value_references.proofs.Standing.{is-kind, not-parameter, not-list}
-use Rattle.value_references.proofs.Parts.{found-some, text-parameter, list-basis, text-list, text-other}
+use Rattle.value_sublists.proofs.Divided.{found-none, found-some, part-within}
 use Rattle.value_references.proofs.part_of.Goals as goal
 
-pub returns-in-Parameter : goal.returns-in-Parameter
-returns-in-Parameter c = (λ cell e p b. c.of_parameter.ensures.0 ∙ text-parameter cell _ _ (is-kind e c.in-Parameter.is) b, c.of_parameter.ensures.1)
+pub returns-in_err-part : goal.returns-in_err-part
+returns-in_err-part c = rw c.from_residual.ensures (λ cell e p b. found-none c.args.s.now (c.part_place.ensures cell e p b) c.in_err-part.was, tt)
 
-pub returns-in-List : goal.returns-in-List
-returns-in-List c = (λ cell e p b. let k = is-kind e c.in-List.is in c.of_list.ensures.0 _ (list-basis cell (listed c.args.subscripts) _ k b) ∙ text-list cell (listed c.args.subscripts) k, c.of_list.ensures.1)
-
-pub returns-in-Symbol : goal.returns-in-Symbol
-returns-in-Symbol c = (λ cell e p b. found-some _ ∙ text-other cell _ _ p (λ z. not-parameter c.in-Symbol.is (e ∙ ap kind_for z)) (λ z. not-list c.in-Symbol.is (e ∙ ap kind_for z)) b, le_refl _)
+pub returns : goal.returns
+returns c = (λ cell e p b. found-some c.args.s.now (c.part_place.ensures cell e p b) _ c.in_ok-part.was c.part.ensures, rw c.part.ensures (part-within c.args.s.now _ _))

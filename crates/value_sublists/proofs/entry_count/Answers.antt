@@ -8,7 +8,7 @@ pub returns-then-is_empty : goal.returns-then-is_empty
 returns-then-is_empty c = count-empty c.args.s.now (search (rules, tests))
 
 pub returns-in-Some : goal.returns-in-Some
-returns-in-Some c = count-entries c.args.s.now _ c.entries_of.ensures.0 (search (rules, tests)) c.in-Some.is
+returns-in-Some c = count-entries c.args.s.now _ c.entries_of.ensures (search (rules, tests)) c.in-Some.is
 
 pub returns-in-None : goal.returns-in-None
-returns-in-None c = count-whole c.args.s.now _ c.entries_of.ensures.0 (search (rules, tests)) c.in-None.is
+returns-in-None c = count-whole c.args.s.now _ c.entries_of.ensures (search (rules, tests)) c.in-None.is

@@ -1,28 +1,48 @@
-use mathlib.Core.Path.{sym, ap, ◌∙◌}
+use mathlib.Core.Path.{sym, ◌∙◌}
 use mathlib.Core.List.{[]}
+use native.Mathlib.Omega.{arith}
+use lib.ListN.{length-drop}
 use mir.Syntax.{w32}
-use mir.Val.{SFits}
-use mir.Facts.{to_z-of_z}
-use Rattle.text.specs.Characters.{digit}
-use Rattle.rules.specs.Choice.{every}
+use mir.ValLaws.{to_z_pos}
+use Rattle.grammar.proofs.Numbers.{digit-bounds}
 use Rattle.value_sums.proofs.Answers.{same-plain}
-use Rattle.value_sums.proofs.Numbers.{digits-first, run-inside, decimal-reads, decimal-letter, decimal-over, taken-spelt}
+use Rattle.value_sums.proofs.Numbers.{none-counted, counted-on, counted-over, stops-digit, stops-end, decimal-over, decimal-letter, decimal-reads}
 use borrow.Author.Rules.{rules}
+use Rattle.value_sums.proofs.decimal.Goals.{else-loop-c-test, then-loop-c-test+then-not-digit}
 use Rattle.value_sums.proofs.decimal.Goals as goal
 
+pub loop-c-init : goal.loop-c-init
+loop-c-init c = (none-counted _, omega arith)
+
+pub overflow_mul-number : goal.overflow_mul-number
+overflow_mul-number c = let few = c.loop-c.invariant.0.few in omega arith
+
+pub overflow_sub-c : goal.overflow_sub-c
+overflow_sub-c c = (digit-bounds _ (sym c.digit.ensures ∙ c.if-not-digit.false)).0
+
+pub overflow_add-number : goal.overflow_add-number
+overflow_add-number c = let few = c.loop-c.invariant.0.few in let high = (digit-bounds _ (sym c.digit.ensures ∙ c.if-not-digit.false)).1 in let d = c.from.ensures in omega arith
+
+pub returns-then-number-gt2147483647 : goal.returns-then-number-gt2147483647
+returns-then-number-gt2147483647 c held inner = decimal-over c.args.code.now c.args.at held inner c.behind-c-items.ensures (counted-over _ _ c.loop-c-test.true c.loop-c.invariant.0 (sym c.digit.ensures ∙ c.if-not-digit.false) c.from.ensures c.if-number-gt2147483647.true)
+
 pub overflow_add-next : goal.overflow_add-next
-overflow_add-next c = let n = c.digits_at-digits.ensures.1 in let m = run-inside c.args.code.now c.args.at in let a = c.ranges.at in search rules
+overflow_add-next c = let here = c.loop-c.invariant.1 in let in_code = c.loop-c-test.true in let e = c.behind-c-items.ensures in let size = length-drop c.args.at c.args.code.now in search rules
 
-pub spelt-requires : goal.spelt-requires
-spelt-requires c = ap (every digit) c.digits_at-digits.ensures.0 ∙ digits-first _
+pub loop-c-preserved : goal.loop-c-preserved
+loop-c-preserved c = let here = c.loop-c.invariant.1 in (counted-on _ _ c.loop-c-test.true c.loop-c.invariant.0 (sym c.digit.ensures ∙ c.if-not-digit.false) c.from.ensures c.if-number-gt2147483647.false, omega arith)
 
-pub returns-in-Some : goal.returns-in-Some
-returns-in-Some c held inner =
-    let fits : SFits w32 c.in-Some.value = record { sfits = search rules } in
-    rw (to_z-of_z fits) (decimal-reads c.args.code.now c.args.at _ c.digits_at-digits.ensures.1 held inner (c.spelt.ensures ∙ taken-spelt c.args.code.now c.args.at c.digits_at-digits.ensures.0 c.digits_at-digits.ensures.1) c.in-Some.is (c.text_at.ensures [] ∙ same-plain [] held _ _) (sym c.letter.ensures ∙ c.if-not-letter.true))
+pub returns-then-letter : goal.returns-then-letter
+returns-then-letter c held inner = decimal-letter c.args.code.now c.args.at held inner c.behind-c-items.ensures c.loop-c.invariant.0 c.loop-c.invariant.1 (elim c.loop-c-test.branch [
+  | else-loop-c-test w ↦ stops-end _ _ w.loop-c-test.false
+  | then-loop-c-test+then-not-digit w ↦ stops-digit _ _ w.loop-c-test.true (sym w.digit.ensures ∙ w.if-not-digit.true)
+]) (c.text_at.ensures [] ∙ same-plain [] held _ _) (sym c.letter.ensures ∙ c.if-letter.true)
 
-pub returns-in_default : goal.returns-in_default
-returns-in_default c held inner = decimal-letter c.args.code.now c.args.at _ c.digits_at-digits.ensures.1 held inner (c.text_at.ensures [] ∙ same-plain [] held _ _) (sym c.letter.ensures ∙ c.if-not-letter.false)
+pub overflow_cast-result : goal.overflow_cast-result
+overflow_cast-result c = let few = c.loop-c.invariant.0.few in omega arith
 
-pub returns-in_default-2 : goal.returns-in_default-2
-returns-in_default-2 c held inner = decimal-over c.args.code.now c.args.at _ c.digits_at-digits.ensures.1 held inner (c.spelt.ensures ∙ taken-spelt c.args.code.now c.args.at c.digits_at-digits.ensures.0 c.digits_at-digits.ensures.1) c.in_default.is
+pub returns : goal.returns
+returns c held inner = let few = c.loop-c.invariant.0.few in rw (to_z_pos w32 c.loop-c.number (omega arith)) (decimal-reads c.args.code.now c.args.at held inner c.behind-c-items.ensures c.loop-c.invariant.0 c.loop-c.invariant.1 (elim c.loop-c-test.branch [
+  | else-loop-c-test w ↦ stops-end _ _ w.loop-c-test.false
+  | then-loop-c-test+then-not-digit w ↦ stops-digit _ _ w.loop-c-test.true (sym w.digit.ensures ∙ w.if-not-digit.true)
+]) (c.text_at.ensures [] ∙ same-plain [] held _ _) (sym c.letter.ensures ∙ c.if-letter.false))
