@@ -52,29 +52,17 @@ pub enum Halt {
 pub fn halt_of(number: u8, at: usize) -> Option<Halt>
     ensures { result ≡ halt_found number at }
 {
-    let fault = match number {
-        0 => return Some(Halt::GoesOn),
-        1 => Fault::BadByte,
-        2 => Fault::OutOfPlace,
-        3 => Fault::BadName,
-        4 => Fault::IllFormed,
-        5 => Fault::OverLimit,
-        6 => Fault::BadCall,
-        7 => Fault::TooLong,
-        8 => Fault::BadValue,
-        9 => Fault::CounterSpent,
-        10 => Fault::LevelSix,
-        11 => Fault::CallsSpent,
-        12 => Fault::BadDeck,
-        13 => Fault::ShortWorkspace,
-        14 => Fault::NoRoom,
-        15 => Fault::LanguageWord,
-        16 => return Some(Halt::StepsSpent),
-        254 => return Some(Halt::Unready),
-        255 => return Some(Halt::Done),
-        _ => return None,
-    };
-    Some(Halt::Refused { fault, at })
+    match number {
+        0 => Some(Halt::GoesOn),
+        1..=15 => Some(Halt::Refused {
+            fault: refusals::fault_of(number),
+            at,
+        }),
+        16 => Some(Halt::StepsSpent),
+        254 => Some(Halt::Unready),
+        255 => Some(Halt::Done),
+        _ => None,
+    }
 }
 
 // What a step leaves.
