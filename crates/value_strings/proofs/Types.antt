@@ -25,9 +25,9 @@ use Rattle.refusals.specs.declared.Fault.TheVariants.{IllFormed}
 use Rattle.kinds.specs.declared.Kind.{Kind as Kept}
 use Rattle.value_sums.specs.Answers.{tells_as, option_of}
 use Rattle.value_sums.proofs.Answers.{map_to}
-use Rattle.value_sublists.specs.Entries.{part_of as part_found}
+use Rattle.value_sublists.specs.Entries.{part_in, part_of as part_found}
 use Rattle.value_references.specs.Referring.{ref_to, is_placed, kind_by}
-use Rattle.value_strings.specs.Typing.{part_in, known_by, tells_type, typed_by}
+use Rattle.value_strings.specs.Typing.{known_by, tells_type, typed_by}
 
 -- ---- substrings
 

@@ -8,16 +8,9 @@ use Rattle.rules.specs.Lexemes.{Lex}
 use Rattle.rules.specs.Fields.{is_empty}
 use Rattle.rules.specs.Grammar.{Reference, Got, given, broken, after_t}
 use Rattle.rules.specs.Evaluate.{Cell, Chars, chars, type_chars}
-use Rattle.spans.specs.Spans.{part_of}
 use Rattle.value_sums.specs.declared.Read.{Read}
 use Rattle.value_sums.specs.declared.Refused.{Refused}
 use Rattle.value_sums.specs.Answers.{tells_as}
-use Rattle.value_strings.specs.declared.Part.{Part}
-
--- the bytes of a part of a string, if it has that part
-unfoldable pub part_in : Bytes → Maybe Part → Option Bytes
-part_in s (Some p) = some (part_of s p.at p.size)
-part_in s None = none
 
 unfoldable pub known_by : Maybe ℕ → Option Bytes
 known_by (Some b) = some (b ∷ [])

@@ -13,22 +13,16 @@ ghost use Rattle.rules.specs.Grammar.{given, broken, deeper, referred, after_t};
 ghost use Rattle.rules.specs.Evaluate.{Cell, values, and_then, type_chars};
 ghost use Rattle.kinds.specs.Kinds.{kind_for};
 ghost use Rattle.value_sums.specs.Answers.{toks_by};
-ghost use Rattle.value_sublists.specs.Entries.{part_of as part_found};
+ghost use Rattle.value_sublists.specs.Entries.{part_in, part_of as part_found};
 ghost use Rattle.value_references.specs.Referring.{ref_to, listed};
 ghost use Rattle.value_arithmetic.specs.Evaluating.{Holds, Stands};
-ghost use Rattle.value_strings.specs.Typing.{part_in, known_by, tells_type};
+ghost use Rattle.value_strings.specs.Typing.{known_by, tells_type};
 
 use kinds::Stand;
 use refusals::Fault;
 use value_references::Scene;
+pub use value_sublists::Part;
 use value_sums::{Read, Refused};
-
-// A part of a string: so many bytes from a place on, as far as it has them.
-#[derive(Clone, Copy)]
-pub struct Part {
-    pub at: usize,
-    pub size: usize,
-}
 
 // The part of a string of `size` bytes that its substring is, if there is one.
 pub fn substring(size: usize, start: i32, count: i32) -> Option<Part>

@@ -14,7 +14,7 @@ struct Passed {
     size: usize,
 }
 
-// A part of an operand, by its place and size.
+// A part of an operand, or of a string: so many bytes from a place on, as far as it has them.
 #[derive(Clone, Copy)]
 pub struct Part {
     pub at: usize,
