@@ -7,6 +7,7 @@ use Rattle.expand_levels.specs.declared.Running.{Running}
 use Rattle.expand_steps.specs.declared.Run.{Run}
 use Rattle.expand_steps.specs.declared.Stepped.{Stepped}
 use Rattle.expand_steps.specs.declared.Halt.{Halt}
+use Rattle.expand_steps.specs.declared.Numbered.{Numbered}
 use Rattle.expand_steps.specs.declared.Halt.TheVariants.{GoesOn, Done, Unready, Refused, StepsSpent}
 
 -- one step more
@@ -33,6 +34,10 @@ goes_on r = record { run = r; halt = GoesOn }
 
 unfoldable pub stops_by : Halt → Run → Stepped
 stops_by h r = record { run = r; halt = h }
+
+-- by a number and a place
+unfoldable pub stops_at : ℕ → ℕ → Run → Numbered
+stops_at number at r = record { run = r; halt = number; at = at }
 
 -- what a number says of a run, `at` being where in the field a refusal arose; a number that is none of these says nothing
 unfoldable pub halt_found : ℕ → ℕ → Option Halt

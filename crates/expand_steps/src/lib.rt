@@ -19,7 +19,7 @@ ghost use Rattle.rules.specs.Evaluate.{Cell};
 ghost use Rattle.rules.specs.Statement.{map_line};
 ghost use Rattle.rules.specs.Decide.{decide};
 ghost use Rattle.deck_reading.specs.Reading.{run_at, line_in};
-ghost use Rattle.expand_steps.specs.Runs.{ticked, past_of, opened_at, with_running, put_to, goes_on, stops_by, halt_found};
+ghost use Rattle.expand_steps.specs.Runs.{ticked, past_of, opened_at, with_running, put_to, goes_on, stops_by, stops_at, halt_found};
 
 use deck_reading::Fields;
 use expand_levels::{CallNumber, Running};
@@ -46,6 +46,26 @@ pub enum Halt {
     Unready,
     Refused { fault: Fault, at: usize },
     StepsSpent,
+}
+
+// A run that is told to stop by a number and a place, whatever they say; `halt_of` has what they say.
+#[derive(Clone, Copy)]
+pub struct Numbered {
+    pub run: Run,
+    pub halt: u8,
+    pub at: usize,
+}
+
+// The run stops by this number, at this place.
+#[tactic(auto, unfolding(crate::specs::Runs::stops_at))]
+pub fn stop_by(run: Run, number: u8, at: usize) -> Numbered
+    ensures { result ≡ stops_at number at run }
+{
+    Numbered {
+        run,
+        halt: number,
+        at,
+    }
 }
 
 // What a number says of a run: 0, it goes on; 1 to 15, the refusal of that number; 16, the steps are spent; 254, no arm does the line yet; 255, all is done. Another number says nothing.

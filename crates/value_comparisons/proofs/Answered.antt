@@ -18,9 +18,10 @@ use Rattle.conditions.proofs.Words.{toks-length}
 use Rattle.value_sums.specs.Answers.{lex_by, toks_by, tells_as}
 use Rattle.value_sums.specs.declared.Read.{Read}
 use Rattle.value_sums.specs.declared.Refused.{Refused}
-use Rattle.value_sums.proofs.Answers.{toks-drop, tells-read, then-read}
+use Rattle.value_sums.specs.declared.Numbered.{Numbered}
+use Rattle.value_sums.proofs.Answers.{toks-drop, tells-read, number-told, number-read}
 use Rattle.value_comparisons.specs.Truths.{truth_in, cutting}
-use Rattle.value_comparisons.specs.Conditions.{tells_truth}
+use Rattle.value_comparisons.specs.Conditions.{tells_truth, truth_by}
 use Rattle.value_comparisons.specs.declared.Truth.{Truth as TruthIs}
 use Rattle.std.specs.Prelude.{Result, Ok, Err}
 use Rattle.refusals.specs.declared.Fault.TheVariants.{IllFormed}
@@ -31,14 +32,14 @@ Lexemes = List (Lex Cell)
 
 -- ---- behind a truth that was read
 
-module _ (from : ℕ → Lexemes) {s : Result (Read TruthIs) Refused} {r : Read TruthIs} (is : s ≡ Ok r) where
+module _ (from : ℕ → Lexemes) {s : Result (Read TruthIs) Numbered} {r : Read TruthIs} (is : s ≡ Ok r) where
   -- another truth at the same place
-  pub then-made : (make : Truth → Truth) (u : TruthIs) → truth_in u ≡ make (truth_in r.value) → tells_truth from (Ok (record { value = u; next = r.next })) ≡ then (tells_truth from s) (λ b x. got (make b) x)
-  then-made make u h = tells-read truth_in from u r.next ∙ ap (λ b. got b (from r.next)) h ∙ sym (then-read truth_in from (λ b x. got (make b) x) is)
+  pub then-made : (make : Truth → Truth) (u : TruthIs) → truth_in u ≡ make (truth_in r.value) → truth_by from (Ok (record { value = u; next = r.next })) ≡ then (truth_by from s) (λ b x. got (make b) x)
+  then-made make u h = number-told truth_in from u r.next ∙ ap (λ b. got b (from r.next)) h ∙ sym (number-read truth_in from (λ b x. got (make b) x) is)
 
   -- the same truth at another place
-  pub then-moved : (move : Lexemes → Lexemes) (n : ℕ) → from n ≡ move (from r.next) → tells_truth from (Ok (record { value = r.value; next = n })) ≡ then (tells_truth from s) (λ b x. got b (move x))
-  then-moved move n h = tells-read truth_in from r.value n ∙ ap (got (truth_in r.value)) h ∙ sym (then-read truth_in from (λ b x. got b (move x)) is)
+  pub then-moved : (move : Lexemes → Lexemes) (n : ℕ) → from n ≡ move (from r.next) → truth_by from (Ok (record { value = r.value; next = n })) ≡ then (truth_by from s) (λ b x. got b (move x))
+  then-moved move n h = number-told truth_in from r.value n ∙ ap (got (truth_in r.value)) h ∙ sym (number-read truth_in from (λ b x. got b (move x)) is)
 
 -- ---- spaces
 

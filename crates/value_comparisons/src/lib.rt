@@ -14,11 +14,11 @@ ghost use Rattle.value_sums.specs.Answers.{toks_by};
 ghost use Rattle.value_texts.specs.Held.{held_in};
 ghost use Rattle.value_comparisons.specs.Orders.{order_of, relation_of, related_of};
 ghost use Rattle.value_comparisons.specs.Truths.{truth_in, bytes_held, strings_held, cutting};
-ghost use Rattle.value_comparisons.specs.Conditions.{tells_truth};
+ghost use Rattle.value_comparisons.specs.Conditions.{tells_truth, truth_by};
 
 use refusals::Fault;
 use std::cmp::Ordering;
-use value_sums::{Read, Refused};
+use value_sums::{Numbered, Read, Refused};
 use value_texts::Text;
 
 #[derive(Clone, Copy)]
@@ -181,18 +181,18 @@ pub fn past_spaces(code: &[u8], at: usize) -> usize
 }
 
 // What may have been read, and the parenthesis that closes.
-pub fn closed(code: &[u8], so_far: Result<Read<Truth>, Refused>) -> Result<Read<Truth>, Refused>
-    ensures { (held : ℕ → Cell) → tells_truth (toks_by held code.now) result ≡ then (tells_truth (toks_by held code.now) so_far) closed_by }
+pub fn closed(code: &[u8], so_far: Result<Read<Truth>, Numbered>) -> Result<Read<Truth>, Numbered>
+    ensures { (held : ℕ → Cell) → truth_by (toks_by held code.now) result ≡ then (truth_by (toks_by held code.now) so_far) closed_by }
 {
-    value_sums::closed(code, so_far?)
+    value_sums::by_number(value_sums::closed(code, so_far?))
 }
 
 // What may have been read, and the spaces behind it.
 pub fn after_spaces(
     code: &[u8],
-    so_far: Result<Read<Truth>, Refused>,
-) -> Result<Read<Truth>, Refused>
-    ensures { (held : ℕ → Cell) → tells_truth (toks_by held code.now) result ≡ then (tells_truth (toks_by held code.now) so_far) (λ b x. got b (past_spaces x)) }
+    so_far: Result<Read<Truth>, Numbered>,
+) -> Result<Read<Truth>, Numbered>
+    ensures { (held : ℕ → Cell) → truth_by (toks_by held code.now) result ≡ then (truth_by (toks_by held code.now) so_far) (λ b x. got b (past_spaces x)) }
 {
     let read = so_far?;
     Ok(Read {
@@ -202,8 +202,8 @@ pub fn after_spaces(
 }
 
 // NOT before what may have been read.
-pub fn not_so(so_far: Result<Read<Truth>, Refused>) -> Result<Read<Truth>, Refused>
-    ensures { (from : ℕ → List (Lex Cell)) → tells_truth from result ≡ then (tells_truth from so_far) (λ b x. got (cutting.negated b) x) }
+pub fn not_so(so_far: Result<Read<Truth>, Numbered>) -> Result<Read<Truth>, Numbered>
+    ensures { (from : ℕ → List (Lex Cell)) → truth_by from result ≡ then (truth_by from so_far) (λ b x. got (cutting.negated b) x) }
 {
     let read = so_far?;
     Ok(Read {
@@ -213,8 +213,8 @@ pub fn not_so(so_far: Result<Read<Truth>, Refused>) -> Result<Read<Truth>, Refus
 }
 
 // AND between a truth and what may have been read behind it.
-pub fn and_so(a: Truth, right: Result<Read<Truth>, Refused>) -> Result<Read<Truth>, Refused>
-    ensures { (from : ℕ → List (Lex Cell)) → tells_truth from result ≡ then (tells_truth from right) (λ b x. got (cutting.both (truth_in a) b) x) }
+pub fn and_so(a: Truth, right: Result<Read<Truth>, Numbered>) -> Result<Read<Truth>, Numbered>
+    ensures { (from : ℕ → List (Lex Cell)) → truth_by from result ≡ then (truth_by from right) (λ b x. got (cutting.both (truth_in a) b) x) }
 {
     let right = right?;
     Ok(Read {
@@ -224,8 +224,8 @@ pub fn and_so(a: Truth, right: Result<Read<Truth>, Refused>) -> Result<Read<Trut
 }
 
 // OR between a truth and what may have been read behind it.
-pub fn or_so(a: Truth, right: Result<Read<Truth>, Refused>) -> Result<Read<Truth>, Refused>
-    ensures { (from : ℕ → List (Lex Cell)) → tells_truth from result ≡ then (tells_truth from right) (λ b x. got (cutting.either (truth_in a) b) x) }
+pub fn or_so(a: Truth, right: Result<Read<Truth>, Numbered>) -> Result<Read<Truth>, Numbered>
+    ensures { (from : ℕ → List (Lex Cell)) → truth_by from result ≡ then (truth_by from right) (λ b x. got (cutting.either (truth_in a) b) x) }
 {
     let right = right?;
     Ok(Read {

@@ -22,7 +22,7 @@ use Rattle.rules.specs.Grammar.{Kind, parameter, symbol, syslist, sysndx, sysect
 use Rattle.rules.specs.Evaluate.{number, Cell, shown, and_then, of_parameter, of_list, text_of, as_number, count_bytes, count_entries, number_of as integer_of}
 use Rattle.std.specs.Prelude.{Result, Ok, Err, Some, None, IfSome}
 use Rattle.value_sums.specs.declared.Read.{Read}
-use Rattle.value_sums.specs.declared.Refused.{Refused}
+use Rattle.value_sums.specs.declared.Numbered.{Numbered}
 use Rattle.std.specs.Prelude.{Option as Maybe}
 use Rattle.std.specs.Borrow.{Bor}
 use Rattle.std.proofs.lemmas.Option.{MatchOption-at_some}
@@ -56,12 +56,12 @@ module _ (s : Bytes) where
   unfolding part_in part_of
   all-in = ap some (take-length s)
 
-module _ {s : Result (Read Subscripts) Refused} where
+module _ {s : Result (Read Subscripts) Numbered} where
   pub first-read : {r : Read Subscripts} {n : ℕ} → s ≡ Ok r → n ≡ first_of r.value → n ≡ first_read s
   unfolding first_read
   first-read is e = e ∙ sym (ap first_read is)
 
-  pub first-refused : {e : Refused} → s ≡ Err e → 0 ≡ first_read s
+  pub first-refused : {e : Numbered} → s ≡ Err e → 0 ≡ first_read s
   unfolding first_read
   first-refused is = sym (ap first_read is)
 

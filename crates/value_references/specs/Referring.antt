@@ -14,6 +14,7 @@ use Rattle.kinds.specs.declared.Stand.TheVariants.{Term, AfterK, AfterN, AfterT,
 use Rattle.kinds.specs.Kinds.{kind_for}
 use Rattle.value_sums.specs.declared.Read.{Read}
 use Rattle.value_sums.specs.declared.Refused.{Refused}
+use Rattle.value_sums.specs.declared.Numbered.{Numbered}
 use Rattle.value_sums.specs.Answers.{tells_as}
 use Rattle.work_frames.specs.Layout.{local_cell}
 use Rattle.work_frames.specs.declared.Frame.{Frame}
@@ -45,7 +46,7 @@ first_of (One a) = place_of a
 first_of (Two a b) = place_of a
 
 -- of what may have been read; 0 for a refusal
-unfoldable pub first_read : Result (Read Subscripts) Refused → ℕ
+unfoldable pub first_read : Result (Read Subscripts) Numbered → ℕ
 first_read (Ok r) = first_of r.value
 first_read (Err e) = 0
 

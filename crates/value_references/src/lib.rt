@@ -20,7 +20,7 @@ ghost use Rattle.value_references.specs.Referring.{ref_to, listed, first_of, fir
 
 use kinds::{Kind, Set, Stand};
 use value_sublists::Part;
-use value_sums::{Read, Refused};
+use value_sums::{Numbered, Read, Refused};
 use work_frames::Frame;
 
 // What a field is evaluated in: the deck, the workspace, and the frame of the level that reads it.
@@ -202,7 +202,7 @@ pub fn first_of(subscripts: Subscripts) -> usize
 }
 
 // The same of a reference that may have been read; 0 for a refusal.
-pub fn first_read(so_far: Result<Read<Subscripts>, Refused>) -> usize
+pub fn first_read(so_far: Result<Read<Subscripts>, Numbered>) -> usize
     ensures { result ≡ first_read so_far }
 {
     match so_far {

@@ -24,9 +24,10 @@ use Rattle.std.specs.Result.{IsErrAnd}
 use Rattle.std.proofs.lemmas.Result.{err_from_is_err_and}
 use Rattle.refusals.specs.Numbers.{number_of}
 use Rattle.refusals.specs.declared.Fault.TheVariants.{IllFormed, BadValue}
-use Rattle.value_sums.specs.Answers.{option_of, lex_by, toks_by, tells_as}
+use Rattle.value_sums.specs.Answers.{option_of, lex_by, toks_by, tells_as, numbered_read, tells_by}
 use Rattle.value_sums.specs.declared.Read.{Read}
 use Rattle.value_sums.specs.declared.Refused.{Refused}
+use Rattle.value_sums.specs.declared.Numbered.{Numbered}
 
 -- the text byte at a place is the same whatever the symbols stand for
 same_byte : (kinds : Bytes) (held : ℕ → Cell) (b : ℕ) → byte_of (lex_of kinds b) ≡ byte_of (lex_by held b)
@@ -104,6 +105,28 @@ module _ {A B W : Type 0} (is : A → B) (from : ℕ → List (Lex Cell)) (k : B
   -- a refusal that goes on, by what the code has
   pub then-stops : {C : Type 0} (told : C → W) {e : Refused} → s ≡ Err e → (r : Result (Read C) Refused) → IsErrAnd r (λ d. d ≡ e) → tells_as told from r ≡ then (tells_as is from s) k
   then-stops told at r out = let p = err_from_is_err_and r out in ap (tells_as told from) (p.1 ∙ ap Err p.2) ∙ then-refused told at
+
+-- the same where a refusal is told by its number
+pub told-number : {A B : Type 0} (is : A → B) (from : ℕ → List (Lex Cell)) (s : Result (Read A) Refused) → tells_by is from (numbered_read s) ≡ tells_as is from s
+unfolding tells_by tells_as numbered_read
+told-number is from (Ok r) = refl
+told-number is from (Err e) = refl
+
+pub number-told : {A B : Type 0} (is : A → B) (from : ℕ → List (Lex Cell)) (v : A) (n : ℕ) → tells_by is from (Ok (record { value = v; next = n })) ≡ got (is v) (from n)
+unfolding tells_by
+number-told is from v n = refl
+
+module _ {A B W : Type 0} (is : A → B) (from : ℕ → List (Lex Cell)) (k : B → List (Lex Cell) → Got W Cell) {s : Result (Read A) Numbered} where
+  pub number-read : {r : Read A} → s ≡ Ok r → then (tells_by is from s) k ≡ k (is r.value) (from r.next)
+  unfolding then tells_by
+  number-read e = ap (λ s. then (tells_by is from s) k) e
+
+  number-refused : {C : Type 0} (told : C → W) {e : Numbered} → s ≡ Err e → tells_by told from (Err e) ≡ then (tells_by is from s) k
+  unfolding then tells_by
+  number-refused told e = sym (ap (λ s. then (tells_by is from s) k) e)
+
+  pub number-stops : {C : Type 0} (told : C → W) {e : Numbered} → s ≡ Err e → (r : Result (Read C) Numbered) → IsErrAnd r (λ d. d ≡ e) → tells_by told from r ≡ then (tells_by is from s) k
+  number-stops told at r out = let p = err_from_is_err_and r out in ap (tells_by told from) (p.1 ∙ ap Err p.2) ∙ number-refused told at
 
 -- what was read, as something else
 abbrev as_got : {A B : Type 0} → (A → B) → Got A Cell → Got B Cell

@@ -10,6 +10,7 @@ use Rattle.rules.specs.Evaluate.{Cell}
 use Rattle.refusals.specs.Numbers.{number_of}
 use Rattle.value_sums.specs.declared.Read.{Read}
 use Rattle.value_sums.specs.declared.Refused.{Refused}
+use Rattle.value_sums.specs.declared.Numbered.{Numbered}
 
 -- the code's option as the rules'
 unfoldable pub option_of : {A : Type 0} → Maybe A → Option A
@@ -30,3 +31,12 @@ tells_as is from (Err r) = refused (number_of r.fault) (length (from r.at))
 
 abbrev pub tells : (ℕ → List (Lex Cell)) → Result (Read ℤ) Refused → Got ℤ Cell
 tells = tells_as (λ z. z)
+
+-- where a refusal is told by its number
+unfoldable pub numbered_read : {A : Type 0} → Result (Read A) Refused → Result (Read A) Numbered
+numbered_read (Ok r) = Ok r
+numbered_read (Err r) = Err (record { number = number_of r.fault; at = r.at })
+
+unfoldable pub tells_by : {A B : Type 0} → (A → B) → (ℕ → List (Lex Cell)) → Result (Read A) Numbered → Got B Cell
+tells_by is from (Ok r) = got (is r.value) (from r.next)
+tells_by is from (Err r) = refused r.number (length (from r.at))

@@ -11,7 +11,7 @@ ghost use Rattle.rules.specs.Lexemes.{Lex};
 ghost use Rattle.rules.specs.Evaluate.{Cell, values};
 ghost use Rattle.rules.specs.Grammar.{Got, plain, then, given, decimal_number};
 ghost use Rattle.rules.specs.Grammar.{closed as closed_by};
-ghost use Rattle.value_sums.specs.Answers.{option_of, toks_by, tells_as, tells};
+ghost use Rattle.value_sums.specs.Answers.{option_of, toks_by, tells_as, tells, numbered_read, tells_by};
 
 use refusals::Fault;
 
@@ -27,6 +27,26 @@ pub struct Read<T> {
 pub struct Refused {
     pub fault: Fault,
     pub at: usize,
+}
+
+// A refusal by its number, whatever number it is, and the place of what is refused.
+#[derive(Clone, Copy)]
+pub struct Numbered {
+    pub number: u8,
+    pub at: usize,
+}
+
+// What was read, with a refusal told by its number.
+pub fn by_number<T: Copy>(read: Result<Read<T>, Refused>) -> Result<Read<T>, Numbered>
+    ensures { result ≡ numbered_read read }
+{
+    match read {
+        Ok(read) => Ok(read),
+        Err(refused) => Err(Numbered {
+            number: u8::from(refused.fault),
+            at: refused.at,
+        }),
+    }
 }
 
 fn quotient(a: i32, b: i32) -> Option<i32>
@@ -77,12 +97,12 @@ pub fn joined_so(
     sign: u8,
     a: i32,
     here: usize,
-    right: Result<Read<i32>, Refused>,
-) -> Result<Read<i32>, Refused>
-    ensures { (from : ℕ → List (Lex Cell)) → tells from result ≡ then (tells from right) (λ b y. given (operate_by sign a b) (from here) y) }
+    right: Result<Read<i32>, Numbered>,
+) -> Result<Read<i32>, Numbered>
+    ensures { (from : ℕ → List (Lex Cell)) → tells_by (λ z. z) from result ≡ then (tells_by (λ z. z) from right) (λ b y. given (operate_by sign a b) (from here) y) }
 {
     let right = right?;
-    placed(operate(sign, a, right.value), here, right.next)
+    by_number(placed(operate(sign, a, right.value), here, right.next))
 }
 
 // What was read, and the parenthesis that closes.
@@ -104,10 +124,13 @@ pub fn closed<T: Copy>(code: &[u8], read: Read<T>) -> Result<Read<T>, Refused>
 }
 
 // What may have been read, and the parenthesis that closes.
-pub fn closed_so<T: Copy>(code: &[u8], so_far: Result<Read<T>, Refused>) -> Result<Read<T>, Refused>
-    ensures { (held : ℕ → Cell) → tells_as (λ v. v) (toks_by held code.now) result ≡ then (tells_as (λ v. v) (toks_by held code.now) so_far) closed_by }
+pub fn closed_so<T: Copy>(
+    code: &[u8],
+    so_far: Result<Read<T>, Numbered>,
+) -> Result<Read<T>, Numbered>
+    ensures { (held : ℕ → Cell) → tells_by (λ v. v) (toks_by held code.now) result ≡ then (tells_by (λ v. v) (toks_by held code.now) so_far) closed_by }
 {
-    closed(code, so_far?)
+    by_number(closed(code, so_far?))
 }
 
 // The number that digits spell, if it is in range.
